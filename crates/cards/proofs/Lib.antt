@@ -1,0 +1,2 @@
+-- Laws about cards that the layers above cite.
+pub mod PointsLaws

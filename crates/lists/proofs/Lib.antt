@@ -1,0 +1,4 @@
+-- Laws about lists that the layers above cite.
+pub mod Sums
+pub mod Tests
+pub mod Takes
