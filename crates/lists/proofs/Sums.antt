@@ -1,5 +1,6 @@
 -- Laws of sums: over an appended list, one element more, and bounds from a bound on each element.
 use mathlib.Core.Path.{_≡_, refl, _∙_, ap}
+use mathlib.Core.Bool.{Bool, false}
 use mathlib.Core.List.{List, [], _∷_, _++_}
 use Prim.Native.Nat.{ℕ, zero, suc, _+_, _*_, _≤_, _<_, zero-le}
 use native.Mathlib.Omega.{arith}
@@ -7,6 +8,8 @@ use native.Mathlib.Nat.{add-zero}
 use lib.ListN.{length, take, getD}
 use lib.Seq.{take-suc}
 use Rattle.lists.specs.Sum.{sum}
+use Rattle.lists.specs.Tests.{any}
+use Rattle.lists.proofs.Tests.{or-eq-false}
 
 module _ {A : Type 0} where
   pub sum-append : (f : A → ℕ) (xs ys : List A) → sum f (xs ++ ys) ≡ sum f xs + sum f ys
@@ -34,3 +37,11 @@ module _ {A : Type 0} where
   unfolding sum
   sum-least f k h [] = omega arith
   sum-least f k h (x ∷ xs) = omega (arith, sum-least f k h xs, h x)
+
+  -- a bound on the elements that fail a test, where all fail it
+  pub sum-least-none : (f : A → ℕ) (k : ℕ) (test : A → Bool) → ((x : A) → test x ≡ false → k ≤ f x) → (xs : List A) → any test xs ≡ false → k * length xs ≤ sum f xs
+  unfolding sum any
+  sum-least-none f k test h [] none = omega arith
+  sum-least-none f k test h (x ∷ xs) none =
+      let each = or-eq-false (test x) (any test xs) none in
+      omega (arith, h x (each .0), sum-least-none f k test h xs (each .1))

@@ -1,0 +1,13 @@
+-- `held` is the lesser of count and places.
+use borrow.Author.Needs.{needs}
+use Rattle.hands.proofs.hand.held.Statement.{statement}
+use Rattle.hands.proofs.hand.held.Tie as tie
+
+returns : tie.Need-returns
+returns c = search needs
+
+returns-2 : tie.Need-returns-2
+returns-2 c = search needs
+
+pub held-spec : {M : Type 1} → statement M
+held-spec = tie.close (tie.spec returns returns-2)

@@ -1,0 +1,106 @@
+-- Options are in range where the facts of `InRange` hold, and only there.
+use mathlib.Core.Path.{_≡_}
+use mathlib.Core.Bool.{Bool, true, false, cond, _&&_, and-eq-true-iff}
+use Prim.Native.Nat.{ℕ, _*_, _≤_, _<_, zero-le}
+use native.Mathlib.Nat.{le-refl}
+use native.Mathlib.Decide.{decLe}
+use native.Mathlib.Omega.{arith}
+use lib.Dec.{leb, eqb}
+use lib.ListN.{getD}
+use borrow.Author.Tests.{leb-true, le-leb, eqb-true, eq-eqb, ne-eqb}
+use Rattle.lists.specs.Tests.{all}
+use Rattle.lists.proofs.Tests.{all-at}
+use Rattle.options.specs.declared.Options.{Options}
+use Rattle.options.specs.declared.Bounds.{Bounds}
+use Rattle.options.specs.Ranges.{range, within, leastCut, mostCut, ranges, isEven, inRange}
+use Rattle.options.specs.Facts.{InRange}
+
+-- a value within its range, as two orders
+within-facts : (r : Bounds) → within r ≡ true → (r .least ≤ r .value) × (r .value ≤ r .most)
+within-facts r e =
+    let both = and-eq-true-iff (leb (r .least) (r .value)) (leb (r .value) (r .most)) .0 e in
+    (leb-true _ _ (both .0), leb-true _ _ (both .1))
+
+facts-within : {value least most : ℕ} → least ≤ value → value ≤ most → within (range value least most) ≡ true
+facts-within low high = simp (le-leb _ _ low, le-leb _ _ high)
+
+-- the three tests of `inRange`
+tests : (o : Options) → inRange o ≡ true → ((all within (ranges o) ≡ true) × (isEven (o .smallest) ≡ true)) × (isEven (o .largest) ≡ true)
+unfolding inRange
+tests o e =
+    let both = and-eq-true-iff (all within (ranges o) && isEven (o .smallest)) (isEven (o .largest)) .0 e in
+    (and-eq-true-iff (all within (ranges o)) (isEven (o .smallest)) .0 (both .0), both .1)
+
+-- the value at each place of the list lies in its range
+range-at : (o : Options) → inRange o ≡ true → (k : ℕ) → k < 14 → let r = getD (ranges o) k (range 0 0 0) in (r .least ≤ r .value) × (r .value ≤ r .most)
+unfolding ranges
+range-at o e k h = within-facts (getD (ranges o) k (range 0 0 0)) (all-at within (ranges o) k (range 0 0 0) (tests o e .0 .0) h)
+
+-- with one deck too, no more than 26 cards for each deck
+cond-most : (b : Bool) (n : ℕ) → cond b 0 n ≤ n
+cond-most true n = zero-le
+cond-most false n = le-refl n
+
+pub in-range-facts : (o : Options) → inRange o ≡ true → InRange o
+unfolding ranges
+in-range-facts o e =
+    let cut : (leastCut (o .decks) ≤ o .cut) × (o .cut ≤ mostCut (o .decks)) = range-at o e 11 (omega arith) in
+    record {
+      seats-least = range-at o e 0 (omega arith) .0;
+      seats-most = range-at o e 0 (omega arith) .1;
+      decks-least = range-at o e 1 (omega arith) .0;
+      decks-most = range-at o e 1 (omega arith) .1;
+      first-least = range-at o e 2 (omega arith) .0;
+      first-most = range-at o e 2 (omega arith) .1;
+      later-most = range-at o e 3 (omega arith) .1;
+      hands-least = range-at o e 4 (omega arith) .0;
+      hands-most = range-at o e 4 (omega arith) .1;
+      aces-most = range-at o e 5 (omega arith) .1;
+      double-least = range-at o e 6 (omega arith) .0;
+      double-most = range-at o e 6 (omega arith) .1;
+      limit-most = range-at o e 7 (omega arith) .1;
+      insurance-least = range-at o e 8 (omega arith) .0;
+      insurance-most = range-at o e 8 (omega arith) .1;
+      five-most = range-at o e 9 (omega arith) .1;
+      prize-most = range-at o e 10 (omega arith) .1;
+      cut-one = λ h. omega (arith, simp (eq-eqb (o .decks) 1 h) at (cut .1));
+      cut-least = λ h. omega (arith, simp (ne-eqb (o .decks) 1 (omega arith)) at (cut .0));
+      cut-most = omega (arith, cond-most (eqb (o .decks) 1) (26 * o .decks));
+      smallest-least = range-at o e 12 (omega arith) .0;
+      smallest-most = range-at o e 12 (omega arith) .1;
+      largest-most = range-at o e 13 (omega arith) .1;
+      smallest-even = eqb-true _ _ (tests o e .0 .1);
+      largest-even = eqb-true _ _ (tests o e .1);
+    }
+
+-- the cut lies in its range, with one deck and with more
+within-cut : (o : Options) → InRange o → within (range (o .cut) (leastCut (o .decks)) (mostCut (o .decks))) ≡ true
+within-cut o f = go (decLe (o .decks) 1)
+  where
+    go : Dec (o .decks ≤ 1) → within (range (o .cut) (leastCut (o .decks)) (mostCut (o .decks))) ≡ true
+    go (yes h) = let one : o .decks ≡ 1 = omega arith in simp (eq-eqb (o .decks) 1 one, f .cut-one one)
+    go (no h) =
+        let more : o .decks ≡ 1 → ⊥ = λ one. omega arith in
+        simp (ne-eqb (o .decks) 1 more, le-leb _ _ (f .cut-least (omega arith)), le-leb _ _ (f .cut-most))
+
+pub facts-in-range : (o : Options) → InRange o → inRange o ≡ true
+unfolding inRange ranges all
+facts-in-range o f =
+    simp (
+      facts-within (f .seats-least) (f .seats-most),
+      facts-within (f .decks-least) (f .decks-most),
+      facts-within (f .first-least) (f .first-most),
+      facts-within zero-le (f .later-most),
+      facts-within (f .hands-least) (f .hands-most),
+      facts-within zero-le (f .aces-most),
+      facts-within (f .double-least) (f .double-most),
+      facts-within zero-le (f .limit-most),
+      facts-within (f .insurance-least) (f .insurance-most),
+      facts-within zero-le (f .five-most),
+      facts-within zero-le (f .prize-most),
+      within-cut o f,
+      facts-within (f .smallest-least) (f .smallest-most),
+      facts-within (f .smallest-most) (f .largest-most),
+      eq-eqb _ _ (f .smallest-even),
+      eq-eqb _ _ (f .largest-even),
+    )

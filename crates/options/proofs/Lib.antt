@@ -1,0 +1,2 @@
+-- Laws about options that the layers above cite.
+pub mod Facts

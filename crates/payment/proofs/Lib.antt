@@ -1,0 +1,2 @@
+-- Laws of payment that the layers above cite.
+pub mod Bounds

@@ -1,0 +1,19 @@
+// The prize of a hand: three times the stake for three sevens or a suited 6-7-8, if the option is on.
+ghost use mathlib.Core.Path.{_≡_};
+ghost use Rattle.standing.specs.SeatHand.{playedOf};
+ghost use Rattle.payment.specs.Prize.{prize as prizeOf};
+use options::Options;
+use standing::seat_hand::SeatHand;
+
+pub fn prize(o: Options, stake: u32, h: SeatHand) -> u64
+    ensures { λ r. ⌜ r ≡ prizeOf o stake (playedOf h) ⌝ }
+{
+    let hand = h.hand;
+    if o.prize != 1 {
+        return 0;
+    }
+    if !patterns::prize_hand::is_prize_hand(hand) {
+        return 0;
+    }
+    3 * (stake as u64)
+}

@@ -1,0 +1,2 @@
+-- The theorem of the rehearsal hands.
+pub mod Theorem

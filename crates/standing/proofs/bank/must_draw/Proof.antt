@@ -1,0 +1,15 @@
+-- `must_draw` tests the total as the definition does.
+use Rattle.standing.specs.Bank.{mustDraw}
+use borrow.Author.Needs.{needs}
+use Rattle.standing.proofs.bank.must_draw.Statement.{statement}
+use Rattle.standing.proofs.bank.must_draw.Tie as tie
+
+total-requires : tie.Need-total-requires
+total-requires c κs = search needs
+
+returns : tie.Need-returns
+unfolding mustDraw
+returns c = cc
+
+pub must-draw-spec : {M : Type 1} → statement M
+must-draw-spec = tie.close (tie.spec total-requires returns)
