@@ -1,4 +1,8 @@
--- Laws about lists that the layers above cite.
+-- Laws about lists and numbers that the layers above cite.
 pub mod Sums
 pub mod Tests
 pub mod Takes
+pub mod Picks
+pub mod Below
+pub mod Places
+pub mod Differences

@@ -1,14 +1,16 @@
--- Laws of sums: over an appended list, one element more, and bounds from a bound on each element.
+-- Laws of sums: over an appended, a mapped, a flattened and a changed list, and bounds from a bound on each element, by a number or by another sum.
 use mathlib.Core.Path.{_≡_, refl, _∙_, ap}
 use mathlib.Core.Bool.{Bool, false}
-use mathlib.Core.List.{List, [], _∷_, _++_}
-use Prim.Native.Nat.{ℕ, zero, suc, _+_, _*_, _≤_, _<_, zero-le}
+use mathlib.Core.List.{List, [], _∷_, _++_, map}
+use Prim.Native.Nat.{ℕ, zero, suc, _+_, _*_, _≤_, _<_, suc-le-suc}
 use native.Mathlib.Omega.{arith}
-use native.Mathlib.Nat.{add-zero}
-use lib.ListN.{length, take, getD}
+use native.Mathlib.Nat.{le-of-suc-le-suc, not-suc-le-zero}
+use lib.ListN.{length, take, getD, set}
 use lib.Seq.{take-suc}
 use Rattle.lists.specs.Sum.{sum}
 use Rattle.lists.specs.Tests.{any}
+use Rattle.lists.specs.Below.{sumBelow}
+use Rattle.lists.specs.Flat.{flat}
 use Rattle.lists.proofs.Tests.{or-eq-false}
 
 module _ {A : Type 0} where
@@ -45,3 +47,65 @@ module _ {A : Type 0} where
   sum-least-none f k test h (x ∷ xs) none =
       let each = or-eq-false (test x) (any test xs) none in
       omega (arith, h x (each .0), sum-least-none f k test h xs (each .1))
+
+  -- each element's number is at most another's and k more
+  pub sum-above : (f g : A → ℕ) (k : ℕ) → ((x : A) → f x ≤ g x + k) → (xs : List A) → sum f xs ≤ sum g xs + k * length xs
+  unfolding sum
+  sum-above f g k h [] = omega arith
+  sum-above f g k h (x ∷ xs) = omega (arith, sum-above f g k h xs, h x)
+
+  -- the same at each place of the list
+  pub sum-at-most : (f g : A → ℕ) (xs : List A) (d : A) → ((i : ℕ) → i < length xs → f (getD xs i d) ≤ g (getD xs i d)) → sum f xs ≤ sum g xs
+  unfolding sum
+  sum-at-most f g [] d h = omega arith
+  sum-at-most f g (x ∷ xs) d h =
+      omega (arith, h 0 (omega arith), sum-at-most f g xs d (λ i k. h (suc i) (suc-le-suc k)))
+
+  pub sum-at-same : (f g : A → ℕ) (xs : List A) (d : A) → ((i : ℕ) → i < length xs → f (getD xs i d) ≡ g (getD xs i d)) → sum f xs ≡ sum g xs
+  unfolding sum
+  sum-at-same f g [] d h = refl
+  sum-at-same f g (x ∷ xs) d h =
+      omega (arith, h 0 (omega arith), sum-at-same f g xs d (λ i k. h (suc i) (suc-le-suc k)))
+
+  -- two numbers for each element
+  pub sum-plus : (f g : A → ℕ) (xs : List A) → sum (λ x. f x + g x) xs ≡ sum f xs + sum g xs
+  unfolding sum
+  sum-plus f g [] = omega arith
+  sum-plus f g (x ∷ xs) = omega (arith, sum-plus f g xs)
+
+  -- one element changed
+  pub sum-set : (f : A → ℕ) (xs : List A) (i : ℕ) (a d : A) → i < length xs → sum f (set xs i a) + f (getD xs i d) ≡ sum f xs + f a
+  unfolding sum
+  sum-set f [] i a d h = absurd (not-suc-le-zero h)
+  sum-set f (x ∷ xs) zero a d h = omega arith
+  sum-set f (x ∷ xs) (suc i) a d h = omega (arith, sum-set f xs i a d (le-of-suc-le-suc h))
+
+  -- one element is at most the sum
+  pub sum-has : (f : A → ℕ) (xs : List A) (i : ℕ) (d : A) → i < length xs → f (getD xs i d) ≤ sum f xs
+  unfolding sum
+  sum-has f [] i d h = absurd (not-suc-le-zero h)
+  sum-has f (x ∷ xs) zero d h = omega arith
+  sum-has f (x ∷ xs) (suc i) d h = omega (arith, sum-has f xs i d (le-of-suc-le-suc h))
+
+  -- one for each element
+  pub sum-ones : (xs : List A) → sum (λ x. 1) xs ≡ length xs
+  unfolding sum
+  sum-ones [] = refl
+  sum-ones (x ∷ xs) = omega (arith, sum-ones xs)
+
+  -- a list that each place's number is 0 in
+  pub sum-none : (f : A → ℕ) (xs : List A) (d : A) → ((i : ℕ) → i < length xs → f (getD xs i d) ≡ 0) → sum f xs ≡ 0
+  unfolding sum
+  sum-none f [] d h = refl
+  sum-none f (x ∷ xs) d h = omega (arith, h 0 (omega arith), sum-none f xs d (λ i k. h (suc i) (suc-le-suc k)))
+
+module _ {A B : Type 0} where
+  pub sum-map : (f : B → ℕ) (g : A → B) (xs : List A) → sum f (map g xs) ≡ sum (λ x. f (g x)) xs
+  unfolding sum
+  sum-map f g [] = refl
+  sum-map f g (x ∷ xs) = ap (λ (n : ℕ). f (g x) + n) (sum-map f g xs)
+
+  pub sum-flat : (f : B → ℕ) (g : A → List B) (xs : List A) → sum f (flat g xs) ≡ sum (λ x. sum f (g x)) xs
+  unfolding sum flat
+  sum-flat f g [] = refl
+  sum-flat f g (x ∷ xs) = sum-append f (g x) (flat g xs) ∙ ap (λ (n : ℕ). sum f (g x) + n) (sum-flat f g xs)

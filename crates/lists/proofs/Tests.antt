@@ -1,20 +1,59 @@
--- Laws of tests over a list: over an appended list, one element more, and the element at a place.
+-- Laws of tests: of `or` and `and`, and over a list: over an appended list, one element more, one element changed, and the element at a place.
 use mathlib.Core.Path.{_≡_, refl, sym, _∙_, ap}
-use mathlib.Core.Bool.{Bool, cond, true, false, _&&_, _||_, and-assoc, and-eq-true-iff, and-true, or-assoc, or-false, or-true, true≢false}
-use mathlib.Core.List.{List, [], _∷_, _++_}
+use mathlib.Core.Bool.{Bool, cond, true, false, not, _&&_, _||_, and-assoc, and-eq-true-iff, and-true, or-assoc, or-false, or-true, true≢false}
+use mathlib.Core.List.{List, [], _∷_, _++_, foldl}
 use Prim.Native.Nat.{ℕ, zero, suc, _<_}
 use native.Mathlib.Nat.{le-of-suc-le-suc, not-suc-le-zero}
 use native.Mathlib.Omega.{arith}
-use lib.Dec.{ltb, leb·suc-suc}
-use lib.ListN.{length, take, getD}
+use lib.Dec.{ltb, eqb, leb·suc-suc}
+use lib.ListN.{length, take, getD, set}
 use lib.Seq.{take-suc}
-use borrow.Author.Tests.{lt-ltb}
+use borrow.Author.Tests.{lt-ltb, eqb-false, ne-eqb}
 use Rattle.lists.specs.Tests.{any, all, firstPlace}
 
 -- an `or` that fails: both parts fail
 pub or-eq-false : (a b : Bool) → a || b ≡ false → (a ≡ false) × (b ≡ false)
 or-eq-false true b e = absurd (true≢false e)
 or-eq-false false b e = (refl, e)
+
+-- an `or` holds exactly if its second part holds where its first fails
+pub or-other : (a b : Bool) → a || b ≡ true → a ≡ false → b ≡ true
+or-other true b e none = absurd (true≢false none)
+or-other false b e none = e
+
+pub or-unless : (a b : Bool) → (a ≡ false → b ≡ true) → a || b ≡ true
+or-unless true b f = refl
+or-unless false b f = f refl
+
+-- a test that counts only where there is some
+pub test-some : (n : ℕ) (b : Bool) → eqb n 0 || b ≡ true → 0 < n → b ≡ true
+test-some n b e some = or-other (eqb n 0) b e (ne-eqb n 0 (λ none. omega arith))
+
+pub some-test : (n : ℕ) (b : Bool) → (0 < n → b ≡ true) → eqb n 0 || b ≡ true
+some-test n b f = or-unless (eqb n 0) b (λ some. f (omega (arith, eqb-false n 0 some)))
+
+-- a test that counts only where another holds
+pub test-where : (a b : Bool) → not a || b ≡ true → a ≡ true → b ≡ true
+test-where a b e holds = or-other (not a) b e (ap not holds)
+
+pub where-test : (a b : Bool) → (a ≡ true → b ≡ true) → not a || b ≡ true
+where-test true b f = f refl
+where-test false b f = refl
+
+-- a chain of `and` that holds: so does the test at each place of it
+fold-and : (b : Bool) (tests : List Bool) → foldl _&&_ b tests ≡ true → (b ≡ true) × ((k : ℕ) → getD tests k true ≡ true)
+fold-and b [] e = (e, λ k. refl)
+fold-and b (x ∷ xs) e = go (fold-and (b && x) xs e)
+  where
+    at : x ≡ true → ((k : ℕ) → getD xs k true ≡ true) → (k : ℕ) → getD (x ∷ xs) k true ≡ true
+    at here later zero = here
+    at here later (suc k) = later k
+
+    go : (b && x ≡ true) × ((k : ℕ) → getD xs k true ≡ true) → (b ≡ true) × ((k : ℕ) → getD (x ∷ xs) k true ≡ true)
+    go (both, later) = let (first, here) = and-eq-true-iff b x .0 both in (first, at here later)
+
+pub and-at : (tests : List Bool) → foldl _&&_ true tests ≡ true → (k : ℕ) → getD tests k true ≡ true
+and-at tests e = fold-and true tests e .1
 
 module _ {A : Type 0} where
   pub any-append : (f : A → Bool) (xs ys : List A) → any f (xs ++ ys) ≡ any f xs || any f ys
@@ -44,12 +83,25 @@ module _ {A : Type 0} where
   all-at f (x ∷ xs) zero d t h = and-eq-true-iff (f x) (all f xs) .0 t .0
   all-at f (x ∷ xs) (suc i) d t h = all-at f xs i d (and-eq-true-iff (f x) (all f xs) .0 t .1) (le-of-suc-le-suc h)
 
+  -- where each element passes, all do
+  pub at-all : (f : A → Bool) (xs : List A) (d : A) → ((i : ℕ) → i < length xs → f (getD xs i d) ≡ true) → all f xs ≡ true
+  unfolding all
+  at-all f [] d h = refl
+  at-all f (x ∷ xs) d h = simp (h 0 (omega arith), at-all f xs d (λ i lt. h (suc i) (omega arith)))
+
   -- one element that passes is enough
   pub any-at : (f : A → Bool) (xs : List A) (i : ℕ) (d : A) → i < length xs → f (getD xs i d) ≡ true → any f xs ≡ true
   unfolding any
   any-at f [] i d h t = absurd (not-suc-le-zero h)
   any-at f (x ∷ xs) zero d h t = ap (λ (b : Bool). b || any f xs) t
   any-at f (x ∷ xs) (suc i) d h t = ap (λ (b : Bool). f x || b) (any-at f xs i d (le-of-suc-le-suc h) t) ∙ or-true (f x)
+
+  -- one element changed for another that tests the same
+  pub any-set : (f : A → Bool) (xs : List A) (i : ℕ) (a d : A) → f a ≡ f (getD xs i d) → any f (set xs i a) ≡ any f xs
+  unfolding any
+  any-set f [] i a d e = refl
+  any-set f (x ∷ xs) zero a d e = ap (λ (b : Bool). b || any f xs) e
+  any-set f (x ∷ xs) (suc i) a d e = ap (λ (b : Bool). f x || b) (any-set f xs i a d e)
 
   -- one element that fails is enough
   pub all-not-at : (f : A → Bool) (xs : List A) (i : ℕ) (d : A) → i < length xs → f (getD xs i d) ≡ false → all f xs ≡ false

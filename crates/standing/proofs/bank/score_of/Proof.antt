@@ -10,7 +10,7 @@ is-natural-requires : tie.Need-is-natural-requires
 is-natural-requires c κs = search needs
 
 returns : tie.Need-returns
-returns c = cc
+returns c = rw (c .before .total .ensures, c .is-natural .ensures)
 
 pub score-of-spec : {M : Type 1} → statement M
 score-of-spec = tie.close (tie.spec total-requires is-natural-requires returns)

@@ -1,0 +1,126 @@
+-- A call that ends a round, close or void, keeps the agreement: no seat has a stake, an insurance, a hand or a prize left, and what the call adds
+-- to a purse is given.
+use mathlib.Core.Path.{_≡_, refl, sym, _∙_, ap, subst}
+use mathlib.Core.Bool.{true, false, and-false}
+use mathlib.Core.List.{List, [], _∷_, map}
+use Prim.Native.Nat.{ℕ, _+_, _*_}
+use native.Mathlib.Omega.{arith}
+use lib.IntN.{pos}
+use lib.ListN.{take, getD}
+use Rattle.lists.proofs.Places.{view-map}
+use Rattle.lists.proofs.Differences.{Diff}
+use Rattle.options.specs.declared.Options.{Options}
+use Rattle.table.specs.declared.Seat.{Seat}
+use Rattle.table.specs.declared.Shoe.{Shoe}
+use Rattle.table.specs.declared.Table.{Table}
+use Rattle.table.specs.Seat.{noSeat, purse, stake, insurance, hands, laid, prizes}
+use Rattle.table.specs.Shoe.{isFresh}
+use Rattle.table.specs.Table.{seatAt}
+use Rattle.table.proofs.RoundEnd.{RoundEnd, cleared, roundEnded, cleared-laid, cleared-prizes, end-shaped, end-sound, end-money}
+use Rattle.history.specs.Entry.{Entry, isFill, isCredit, isBuy, isCash, isStake, isDeal, isInsure, isDraw, isDouble, isSplit, isEnd, isLoad}
+use Rattle.history.specs.Rounds.{stakeIn, stakedBelow}
+use Rattle.history.specs.Cards.{Cards, makeCards, callTakes, bankAfter, cardsAfter, cardsOfHistory}
+use Rattle.history.specs.Hands.{handsAfter}
+use Rattle.history.specs.Money.{lays, wins, laidEver, prizesEver, prizeOf, bought, cashed, ended, endedBy, purseOf}
+use Rattle.agreement.specs.Agrees.{SeatAgrees, CardsAgree, Good}
+use Rattle.agreement.proofs.Purse.{purse-law}
+use Rattle.agreement.proofs.Quiet.{cond-same}
+
+-- a call that ends a round and does nothing that another kind does
+pub record Ends (e : Entry) : Type 0 where
+  pub is-end : isEnd e ≡ true
+  pub no-deal : isDeal e ≡ false
+  pub no-load : isLoad e ≡ false
+  pub no-fill : isFill e ≡ false
+  pub no-credit : isCredit e ≡ false
+  pub no-buy : isBuy e ≡ false
+  pub no-cash : isCash e ≡ false
+  pub no-stake : isStake e ≡ false
+  pub no-insure : isInsure e ≡ false
+  pub no-draw : isDraw e ≡ false
+  pub no-double : isDouble e ≡ false
+  pub no-split : isSplit e ≡ false
+
+module _ (o : Options) (opening : List ℕ) (es : List Entry) (i : ℕ) (e : Entry) (q : Ends e) where
+  lays-end : (S : ℕ) → lays i S e ≡ 0
+  unfolding lays
+  lays-end S = simp (q .no-stake, q .no-insure, q .no-double, q .no-split, cond-same)
+
+  prize-end : prizeOf o opening es i e ≡ 0
+  unfolding wins
+  prize-end = simp (q .no-draw, q .no-double, and-false)
+
+  -- the purse changes by what the ended round adds
+  pub purse-end : (x next plus minus : ℕ) → Diff (endedBy o opening es i e) plus minus → pos x ≡ purseOf o opening es i → next + minus ≡ x + plus → pos next ≡ purseOf o opening (e ∷ es) i
+  purse-end x next plus minus d p h =
+      purse-law x next (bought es i) (cashed es i) (laidEver es i) (prizesEver o opening es i) _ _ _ _ (ended o opening es i) (endedBy o opening es i e) plus minus d p
+      (simp (q .no-buy, q .no-cash) (omega (arith, lays-end (stakeIn es i), prize-end)))
+
+  -- the seat after it
+  end-seat : (purse-of : Seat → ℕ) (s : Seat) → pos (purse-of s) ≡ purseOf o opening (e ∷ es) i → SeatAgrees o opening (e ∷ es) i (cleared purse-of s)
+  unfolding handsAfter
+  end-seat purse-of s p =
+      record {
+        stake-is = simp (q .is-end);
+        insurance-is = simp (q .is-end);
+        hands-are = simp (q .no-deal, q .is-end);
+        laid-is = cleared-laid purse-of s ∙ simp (q .is-end);
+        prizes-are = cleared-prizes o purse-of s ∙ simp (q .is-end);
+        purse-is = p;
+      }
+
+-- the same of the seat of any number, where the table has none such too
+listed : (o : Options) (opening : List ℕ) (es : List Entry) (purse-of : Seat → ℕ) (seats : List Seat) (i : ℕ) → purse-of noSeat ≡ 0
+    → SeatAgrees o opening es i (cleared purse-of (getD seats i noSeat)) → SeatAgrees o opening es i (getD (map (cleared purse-of) seats) i noSeat)
+unfolding laid prizes
+listed o opening es purse-of seats i none a =
+    record {
+      stake-is = view-map stake (cleared purse-of) seats i noSeat refl ∙ a .stake-is;
+      insurance-is = view-map insurance (cleared purse-of) seats i noSeat refl ∙ a .insurance-is;
+      hands-are = view-map hands (cleared purse-of) seats i noSeat refl ∙ a .hands-are;
+      laid-is = view-map laid (cleared purse-of) seats i noSeat refl ∙ a .laid-is;
+      prizes-are = view-map (prizes o) (cleared purse-of) seats i noSeat refl ∙ a .prizes-are;
+      purse-is = ap pos (view-map purse (cleared purse-of) seats i noSeat none) ∙ a .purse-is;
+    }
+
+module _ (opening : List ℕ) (es : List Entry) (t : Table) (e : Entry) (tray : ℕ) (purse-of : Seat → ℕ) (shoe : Shoe) (k : ℕ) (cards : List ℕ) where
+  pub record EndCall : Type 0 where
+    pub ends : Ends e
+    pub takes : callTakes (t .options) (stakedBelow es (t .options .seats)) (cardsOfHistory (t .options) opening es) e ≡ k
+    pub same-fresh : isFresh shoe ≡ isFresh (t .shoe)
+    pub purses : (i : ℕ) → pos (purse-of (seatAt t i)) ≡ purseOf (t .options) opening (e ∷ es) i
+
+  -- the history's cards after the call
+  cards-after : EndCall → (c : Cards) → c ≡ cardsOfHistory (t .options) opening es → cardsOfHistory (t .options) opening (e ∷ es) ≡ makeCards (c .order) (c .fresh) (c .taken + k) []
+  unfolding cardsAfter bankAfter
+  cards-after call c same = simp (call .ends .no-load, call .ends .no-deal, call .ends .is-end, call .takes, same)
+
+  pub end-call : Good opening es t → RoundEnd t tray purse-of shoe k cards → EndCall → Good opening (e ∷ es) (roundEnded t tray purse-of shoe)
+  end-call g end call =
+      let c = cardsOfHistory (t .options) opening es in
+      let a = g .agrees in
+      let q = call .ends in
+      let now : cardsOfHistory (t .options) opening (e ∷ es) ≡ makeCards (c .order) (c .fresh) (c .taken + k) [] = cards-after call c refl in
+      record {
+        shaped = end-shaped t tray purse-of shoe k cards (g .shaped) (g .sound) end;
+        sound = end-sound t tray purse-of shoe k cards (g .shaped) (g .sound) end;
+        agrees =
+            record {
+              cards =
+                  subst (λ (x : Cards). CardsAgree x (roundEnded t tray purse-of shoe)) (sym now)
+                  (record {
+                    order = ap (take (52 * t .options .decks)) (end .same-order) ∙ a .cards .order;
+                    taken = end .more-drawn ∙ ap (λ (n : ℕ). n + k) (a .cards .taken);
+                    fresh = call .same-fresh ∙ a .cards .fresh;
+                    bank = refl;
+                  });
+              dealt = sym (simp (q .is-end));
+              seats = λ i.
+                  listed (t .options) opening (e ∷ es) purse-of (t .seats) i
+                  (end .nothing-stays noSeat (record { no-purse = refl; no-stake = refl; no-insurance = refl; no-hands = refl }))
+                  (end-seat (t .options) opening es i e q purse-of (seatAt t i) (call .purses i));
+              balance =
+                  simp (q .no-fill, q .no-buy, q .no-credit, q .no-cash)
+                  (omega (arith, end-money t tray purse-of shoe k cards (g .shaped) (g .sound) end, a .balance));
+            };
+      }

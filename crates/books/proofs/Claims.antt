@@ -1,0 +1,69 @@
+-- A good table meets every sentence of the claim.
+use mathlib.Core.Path.{_≡_, refl, sym, _∙_, ap, subst}
+use mathlib.Core.Bool.{Bool, true, false, not, true≢false}
+use mathlib.Core.List.{List, [], _∷_, _++_}
+use Prim.Native.Nat.{ℕ, _+_, _≤_, _<_}
+use native.Mathlib.Decide.{decLe}
+use native.Mathlib.Omega.{arith}
+use lib.ListN.{length, take, drop, take-append-drop, List·getD-eq-default}
+use borrow.Author.Tests.{ltb-false}
+use Rattle.lists.specs.Sum.{sum, isIt, count}
+use Rattle.lists.proofs.Sums.{sum-append}
+use Rattle.lists.proofs.Differences.{diff-pos, diff-sub, diff-is}
+use Rattle.table.specs.declared.Table.{Table}
+use Rattle.table.specs.Seat.{noSeat, hands}
+use Rattle.table.specs.Table.{seatAt, handCards, bankCards, isDealt, tableOrder, tableShoe, tableDrawn, tableDiscards}
+use Rattle.table.specs.Money.{allMoney}
+use Rattle.table.specs.Broken.{sound}
+use Rattle.table.proofs.Facts.{facts-sound, no-hands}
+use Rattle.history.specs.Entry.{Entry}
+use Rattle.history.specs.Rounds.{isDealtRound}
+use Rattle.history.specs.Cards.{cardsOfHistory}
+use Rattle.history.specs.Money.{cameIn, wentOut}
+use Rattle.agreement.specs.Agrees.{Good}
+use Rattle.cashier.proofs.Loads.{no-hand}
+use Rattle.books.specs.Books.{Claim}
+
+empty-list : (xs : List ℕ) → length xs ≡ 0 → xs ≡ []
+empty-list [] e = refl
+empty-list (x ∷ xs) e = absurd (omega arith)
+
+module _ (opening : List ℕ) (es : List Entry) (t : Table) (g : Good opening es t) where
+  none-dealt : isDealtRound es ≡ false → isDealt t ≡ false
+  none-dealt e = g .agrees .dealt ∙ e
+
+  no-seat-hands : isDealtRound es ≡ false → (i : ℕ) → hands (seatAt t i) ≡ []
+  no-seat-hands e i = go (decLe 9 i)
+    where
+      go : Dec (9 ≤ i) → hands (seatAt t i) ≡ []
+      go (yes h) = rw (List·getD-eq-default (t .seats) noSeat {n = i} (omega (arith, g .shaped .nine-seats))) refl
+      go (no h) = no-hands (seatAt t i) (no-hand t i (omega arith) (g .sound) (none-dealt e))
+
+  -- the order in two: what is drawn and what is left
+  halves : (w : ℕ → ℕ) → sum w (tableDrawn t) + sum w (tableShoe t) ≡ sum w (tableOrder t)
+  halves w = sym (sum-append w (tableDrawn t) (tableShoe t)) ∙ ap (sum w) (take-append-drop (t .shoe .drawn) (tableOrder t))
+
+  pub claim : Claim (t .options) opening es t
+  claim =
+      let a = g .agrees in
+      let c = a .cards in
+      record {
+        balance = diff-is (diff-sub (diff-pos (cameIn es)) (diff-pos (wentOut es))) (allMoney t) (omega (arith, a .balance));
+        purse-is = λ i. a .seats i .purse-is;
+        layout-is = λ i. a .seats i .laid-is;
+        hands-are = λ i. a .seats i .hands-are;
+        bank-is = c .bank;
+        hands-outside = λ e i. sym (a .seats i .hands-are) ∙ no-seat-hands e i;
+        bank-outside = λ e. sym (c .bank) ∙ empty-list (bankCards t) (omega (arith, ltb-false 0 (length (bankCards t)) (none-dealt e)));
+        shoe-is = rw (← c .taken, ← c .order) (take-append-drop (t .shoe .drawn) (tableOrder t));
+        faces = λ face h.
+            omega (
+              arith,
+              sum-append (isIt face) (handCards t ++ bankCards t) (tableDiscards t),
+              sum-append (isIt face) (handCards t) (bankCards t),
+              g .sound .faces face (omega arith),
+              halves (isIt face),
+              ap (sum (isIt face)) (c .order),
+            );
+        sound = ap not (facts-sound t (g .shaped .bank) (g .sound));
+      }

@@ -1,0 +1,3 @@
+-- The theorem of demand 3 and the laws beside it.
+pub mod Replay
+pub mod Claims

@@ -1,0 +1,45 @@
+-- Demand 3, as document 01's section "The history" says it: one claim about every list of the seventeen calls, refused ones among them,
+-- from the table of an accepted opening, each call on the table that the one before returned. A field for each sentence.
+use mathlib.Core.Path.{_≡_}
+use mathlib.Core.Bool.{false}
+use mathlib.Core.List.{List, [], _++_}
+use Prim.Native.Nat.{ℕ, _+_, _<_}
+use lib.IntN.{pos, _-ℤ_}
+use Rattle.lists.specs.Sum.{count}
+use Rattle.options.specs.declared.Options.{Options}
+use Rattle.table.specs.declared.Table.{Table}
+use Rattle.table.specs.Seat.{purse, hands, laid}
+use Rattle.table.specs.Table.{seatAt, handCards, bankCards, tableShoe, tableDiscards}
+use Rattle.table.specs.Money.{layout, purses}
+use Rattle.table.specs.Broken.{broken}
+use Rattle.history.specs.Entry.{Entry}
+use Rattle.history.specs.Rounds.{isDealtRound}
+use Rattle.history.specs.Cards.{cardsOfHistory, drawnCards}
+use Rattle.history.specs.Hands.{handsIn}
+use Rattle.history.specs.Money.{cameIn, wentOut, laidIn, purseOf}
+use Rattle.cashier.specs.Opening.{opened}
+use Rattle.engine.specs.Run.{run, accepted}
+
+-- What is claimed of a table t and the accepted calls es, newest first.
+pub record Claim (o : Options) (opening : List ℕ) (es : List Entry) (t : Table) : Type 0 where
+  -- tray + layout + purses = accepted fills + buys − credits − cashes
+  pub balance : pos (t .tray + layout t + purses t) ≡ pos (cameIn es) -ℤ pos (wentOut es)
+  -- each seat's purse and layout money equal the history's
+  pub purse-is : (i : ℕ) → pos (purse (seatAt t i)) ≡ purseOf o opening es i
+  pub layout-is : (i : ℕ) → laid (seatAt t i) ≡ laidIn es i
+  -- the hands of each seat, their number and their cards place by place, and the bank's cards equal the history's
+  pub hands-are : (i : ℕ) → hands (seatAt t i) ≡ handsIn o opening es i
+  pub bank-is : bankCards t ≡ cardsOfHistory o opening es .bank
+  -- none outside a round that the history calls dealt
+  pub hands-outside : isDealtRound es ≡ false → (i : ℕ) → handsIn o opening es i ≡ []
+  pub bank-outside : isDealtRound es ≡ false → cardsOfHistory o opening es .bank ≡ []
+  -- the cards that the history has drawn since its last load, followed by the table's shoe, are the order of its last load
+  pub shoe-is : drawnCards o opening es ++ tableShoe t ≡ cardsOfHistory o opening es .order
+  -- of every face hands, bank, discards and shoe together hold as many cards as that order
+  pub faces : (face : ℕ) → face < 52 → count face (handCards t) + count face (bankCards t) + count face (tableDiscards t) + count face (tableShoe t) ≡ count face (cardsOfHistory o opening es .order)
+  -- the table is not broken
+  pub sound : broken t ≡ false
+
+-- After the list `calls`, oldest first, from the table that the opening returned.
+abbrev pub Books : Options → List ℕ → List Entry → Type 0
+Books o opening calls = Claim o opening (accepted (opened o opening) calls []) (run (opened o opening) calls)

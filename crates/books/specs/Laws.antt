@@ -1,0 +1,21 @@
+-- Two laws beside the theorem.
+use mathlib.Core.Path.{_≡_}
+use mathlib.Core.Bool.{false}
+use mathlib.Core.List.{List, [], reverse}
+use Prim.Native.Nat.{ℕ}
+use Rattle.call.specs.declared.Call.{Call}
+use Rattle.table.specs.declared.Table.{Table}
+use Rattle.table.specs.Shape.{Shaped}
+use Rattle.table.specs.Broken.{broken}
+use Rattle.history.specs.Entry.{Entry}
+use Rattle.engine.specs.Run.{run, accepted}
+
+-- A table value whose arrays have their lengths and that is not broken: reached by calls or not.
+pub record Whole (t : Table) : Type 0 where
+  pub shaped : Shaped t
+  pub sound : broken t ≡ false
+
+-- Playing only the accepted calls of a run, in their order, gives the same table, and all of them are accepted.
+pub record Replayed (t : Table) (calls : List Entry) : Type 0 where
+  pub same-table : run t (reverse (accepted t calls [])) ≡ run t calls
+  pub all-accepted : accepted t (reverse (accepted t calls [])) [] ≡ accepted t calls []

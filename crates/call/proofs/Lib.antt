@@ -1,0 +1,2 @@
+-- Laws of refusals that every call cites.
+pub mod Refusals

@@ -1,0 +1,63 @@
+-- Document 01, "The seventeen calls": the kind of a call, numbered as the session file numbers them, its seat and its amount.
+use Prim.Native.Nat.{ℕ}
+use Rattle.call.specs.declared.Call.{Call}
+use Rattle.call.specs.declared.Call.the-variants.{Fill, Credit, Buy, Cash, Stake, Deal, Insure, Stand, Draw, Double, Split, Surrender, Even, Five, Close, Void, Load}
+
+abbrev pub kind : Call → ℕ
+kind (Fill n) = 1
+kind (Credit n) = 2
+kind (Buy at n) = 3
+kind (Cash at n) = 4
+kind (Stake at n) = 5
+kind Deal = 6
+kind (Insure at n) = 7
+kind (Stand at) = 8
+kind (Draw at) = 9
+kind (Double at) = 10
+kind (Split at) = 11
+kind (Surrender at) = 12
+kind (Even at) = 13
+kind (Five at) = 14
+kind Close = 15
+kind Void = 16
+kind Load = 17
+
+-- The seat that the call names; 0 where it names none.
+abbrev pub seat : Call → ℕ
+seat (Fill n) = 0
+seat (Credit n) = 0
+seat (Buy at n) = at .seat
+seat (Cash at n) = at .seat
+seat (Stake at n) = at .seat
+seat Deal = 0
+seat (Insure at n) = at .seat
+seat (Stand at) = at .seat
+seat (Draw at) = at .seat
+seat (Double at) = at .seat
+seat (Split at) = at .seat
+seat (Surrender at) = at .seat
+seat (Even at) = at .seat
+seat (Five at) = at .seat
+seat Close = 0
+seat Void = 0
+seat Load = 0
+
+-- The amount that the call names; 0 where it names none.
+abbrev pub amount : Call → ℕ
+amount (Fill n) = n
+amount (Credit n) = n
+amount (Buy at n) = n
+amount (Cash at n) = n
+amount (Stake at n) = n
+amount Deal = 0
+amount (Insure at n) = n
+amount (Stand at) = 0
+amount (Draw at) = 0
+amount (Double at) = 0
+amount (Split at) = 0
+amount (Surrender at) = 0
+amount (Even at) = 0
+amount (Five at) = 0
+amount Close = 0
+amount Void = 0
+amount Load = 0

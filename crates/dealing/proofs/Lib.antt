@@ -1,0 +1,7 @@
+-- Deal and void keep a table good: sound, and in agreement with the history.
+pub mod ListLaws
+pub mod Pass
+pub mod DealtSeat
+pub mod DealSound
+pub mod Deal
+pub mod Void

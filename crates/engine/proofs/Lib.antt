@@ -1,0 +1,2 @@
+-- The marked session over the definitions.
+pub mod Session

@@ -1,0 +1,3 @@
+-- One step over all seventeen calls, and runs of lists of calls.
+pub mod Step
+pub mod Run

@@ -1,0 +1,98 @@
+-- Document 01, "The seventeen calls": one step. The number is the first whose condition holds; at 0 the effect is the next table, else the table stays.
+use mathlib.Core.Bool.{cond}
+use mathlib.Core.List.{List}
+use Prim.Native.Nat.{ℕ}
+use lib.Dec.{eqb}
+use Rattle.call.specs.declared.Call.{Call}
+use Rattle.call.specs.declared.Call.the-variants.{Fill, Credit, Buy, Cash, Stake, Deal, Insure, Stand, Draw, Double, Split, Surrender, Even, Five, Close, Void, Load}
+use Rattle.call.specs.Refusal.{Condition, first}
+use Rattle.call.specs.Answer.{Answer, Shown, nothing}
+use Rattle.table.specs.declared.Table.{Table}
+use Rattle.cashier.specs.Fill.{fillConditions, fillEffect}
+use Rattle.cashier.specs.Credit.{creditConditions, creditEffect}
+use Rattle.cashier.specs.Buy.{buyConditions, buyEffect}
+use Rattle.cashier.specs.Cash.{cashConditions, cashEffect}
+use Rattle.cashier.specs.Load.{loadConditions, loadEffect}
+use Rattle.cashier.specs.Stake.{stakeConditions, stakeEffect}
+use Rattle.dealing.specs.Deal.{dealConditions, dealEffect}
+use Rattle.dealing.specs.Void.{voidConditions, voidEffect}
+use Rattle.decisions.specs.Insure.{insureConditions, insureEffect}
+use Rattle.decisions.specs.Surrender.{surrenderConditions, surrenderEffect}
+use Rattle.decisions.specs.Stand.{standConditions, standEffect}
+use Rattle.decisions.specs.Draw.{drawConditions, drawEffect}
+use Rattle.decisions.specs.Double.{doubleConditions, doubleEffect}
+use Rattle.decisions.specs.Split.{splitConditions, splitEffect}
+use Rattle.decisions.specs.Even.{evenConditions, evenEffect}
+use Rattle.decisions.specs.Five.{fiveConditions, fiveEffect}
+use Rattle.settling.specs.Close.{closeConditions, closeEffect, closeShown}
+
+-- A call's conditions on a table, with the order that is lent beside it.
+abbrev pub conditions : Table → Call → List ℕ → List Condition
+conditions t (Fill n) order = fillConditions t n
+conditions t (Credit n) order = creditConditions t n
+conditions t (Buy at n) order = buyConditions t (at .seat) n
+conditions t (Cash at n) order = cashConditions t (at .seat) n
+conditions t (Stake at n) order = stakeConditions t (at .seat) n
+conditions t Deal order = dealConditions t
+conditions t (Insure at n) order = insureConditions t (at .seat) n
+conditions t (Stand at) order = standConditions t (at .seat)
+conditions t (Draw at) order = drawConditions t (at .seat)
+conditions t (Double at) order = doubleConditions t (at .seat)
+conditions t (Split at) order = splitConditions t (at .seat)
+conditions t (Surrender at) order = surrenderConditions t (at .seat)
+conditions t (Even at) order = evenConditions t (at .seat)
+conditions t (Five at) order = fiveConditions t (at .seat)
+conditions t Close order = closeConditions t
+conditions t Void order = voidConditions t
+conditions t Load order = loadConditions t order
+
+-- What an accepted call does.
+abbrev pub effect : Table → Call → List ℕ → Table
+effect t (Fill n) order = fillEffect t n
+effect t (Credit n) order = creditEffect t n
+effect t (Buy at n) order = buyEffect t (at .seat) n
+effect t (Cash at n) order = cashEffect t (at .seat) n
+effect t (Stake at n) order = stakeEffect t (at .seat) n
+effect t Deal order = dealEffect t
+effect t (Insure at n) order = insureEffect t (at .seat) n
+effect t (Stand at) order = standEffect t (at .seat)
+effect t (Draw at) order = drawEffect t (at .seat)
+effect t (Double at) order = doubleEffect t (at .seat)
+effect t (Split at) order = splitEffect t (at .seat)
+effect t (Surrender at) order = surrenderEffect t (at .seat)
+effect t (Even at) order = evenEffect t (at .seat)
+effect t (Five at) order = fiveEffect t (at .seat)
+effect t Close order = closeEffect t
+effect t Void order = voidEffect t
+effect t Load order = loadEffect t order
+
+-- What an accepted call shows: only close shows anything.
+abbrev pub shown : Table → Call → Shown
+shown t (Fill n) = nothing
+shown t (Credit n) = nothing
+shown t (Buy at n) = nothing
+shown t (Cash at n) = nothing
+shown t (Stake at n) = nothing
+shown t Deal = nothing
+shown t (Insure at n) = nothing
+shown t (Stand at) = nothing
+shown t (Draw at) = nothing
+shown t (Double at) = nothing
+shown t (Split at) = nothing
+shown t (Surrender at) = nothing
+shown t (Even at) = nothing
+shown t (Five at) = nothing
+shown t Close = closeShown t
+shown t Void = nothing
+shown t Load = nothing
+
+-- The number of a call.
+unfoldable pub number : Table → Call → List ℕ → ℕ
+number t c order = first (conditions t c order)
+
+-- The answer and the next table: a refused call shows nothing and leaves the table as it was.
+unfoldable pub answer : Table → Call → List ℕ → Answer
+answer t c order = record { number = number t c order; shown = cond (eqb (number t c order) 0) (shown t c) nothing }
+
+unfoldable pub next : Table → Call → List ℕ → Table
+next t c order = cond (eqb (number t c order) 0) (effect t c order) t

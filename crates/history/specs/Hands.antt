@@ -1,0 +1,76 @@
+-- Hands: deal gives each seat that staked in the round one hand. A decision in turn goes to the hand whose turn it is, surrender to the
+-- seat's only hand. Split moves the second card to the new hand. A hand keeps its cards, where it comes from and how it ended; W follows.
+use mathlib.Core.Bool.{Bool, cond, not}
+use mathlib.Core.List.{List, [], _∷_, _++_}
+use Prim.Native.Nat.{ℕ, suc, _+_}
+use lib.Dec.{ltb}
+use lib.ListN.{length, getD, take, drop, set}
+use Rattle.cards.specs.Card.{isAce}
+use Rattle.options.specs.declared.Options.{Options}
+use Rattle.standing.specs.SeatHand.{Played, dealt, split, splitAces, notEnded, byStand, byDouble, bySurrender, byEven, byFive}
+use Rattle.standing.specs.Turn.{waitingPlace}
+use Rattle.history.specs.Entry.{Entry, isOf, isDeal, isStand, isDraw, isDouble, isSplit, isSurrender, isEven, isFive, isEnd}
+use Rattle.history.specs.Rounds.{stakeIn, stakedBelow}
+use Rattle.history.specs.Cards.{Cards, dealBurns, cardsOfHistory}
+
+abbrev pub played : List ℕ → ℕ → ℕ → Played
+played cards origin ended = record { cards = cards; origin = origin; ended = ended }
+
+-- What stands where a seat has no such hand.
+abbrev pub noHand : Played
+noHand = played [] dealt notEnded
+
+-- A deal: behind the burn lie a first card for each staked seat from the lowest, the bank's, then a second for each.
+-- The seat has `before` staked seats below it, of `staked` in all.
+unfoldable pub dealtHand : Options → Cards → ℕ → ℕ → Played
+dealtHand o c before staked =
+    played
+    (getD (c .order) (c .taken + dealBurns o c + before) 0 ∷ getD (c .order) (c .taken + dealBurns o c + staked + 1 + before) 0 ∷ [])
+    dealt notEnded
+
+-- The next card of the order, and the one behind it.
+abbrev pub nextCard : Cards → ℕ → ℕ
+nextCard c n = getD (c .order) (c .taken + n) 0
+
+-- A hand with one card more, and a hand ended by a decision.
+abbrev pub grown : Played → ℕ → Played
+grown h card = played (h .cards ++ (card ∷ [])) (h .origin) (h .ended)
+
+abbrev pub ended : Played → ℕ → Played
+ended h code = played (h .cards) (h .origin) code
+
+-- The two hands of a split: each keeps a card of the pair and takes one, the parent first.
+unfoldable pub splitOne : ℕ → ℕ → Played
+splitOne kept card = played (kept ∷ card ∷ []) (cond (isAce kept) splitAces split) notEnded
+
+unfoldable pub splitHands : List Played → ℕ → Cards → List Played
+splitHands hands p c =
+    let pair = getD hands p noHand .cards in
+    take p hands ++ splitOne (getD pair 0 0) (nextCard c 0) ∷ splitOne (getD pair 1 0) (nextCard c 1) ∷ drop (suc p) hands
+
+-- What a decision of the seat makes of its hands, p being the place whose turn it is.
+unfoldable pub decide : List Played → ℕ → Cards → Entry → List Played
+decide hands p c e =
+    let h = getD hands p noHand in
+    cond (isStand e) (set hands p (ended h byStand))
+    (cond (isDraw e) (set hands p (grown h (nextCard c 0)))
+    (cond (isDouble e) (set hands p (ended (grown h (nextCard c 0)) byDouble))
+    (cond (isSplit e) (splitHands hands p c)
+    (cond (isSurrender e) (set hands 0 (ended (getD hands 0 noHand) bySurrender))
+    (cond (isEven e) (set hands p (ended h byEven))
+    (cond (isFive e) (set hands p (ended h byFive))
+    hands))))))
+
+-- What a call makes of a seat's hands. `before` and `staked` count staked seats, S is the seat's stake.
+unfoldable pub handsAfter : Options → Cards → ℕ → ℕ → ℕ → ℕ → List Played → Entry → List Played
+handsAfter o c i before staked S hands e =
+    cond (isDeal e) (cond (ltb 0 S) (dealtHand o c before staked ∷ []) [])
+    (cond (isEnd e) []
+    (cond (isOf i e) (decide hands (waitingPlace o (getD (c .bank) 0 0) hands) c e)
+    hands))
+
+-- The hands of a seat after a list of accepted calls.
+abbrev pub handsIn : Options → List ℕ → List Entry → ℕ → List Played
+handsIn o opening [] i = []
+handsIn o opening (e ∷ es) i =
+    handsAfter o (cardsOfHistory o opening es) i (stakedBelow es i) (stakedBelow es (o .seats)) (stakeIn es i) (handsIn o opening es i) e

@@ -1,0 +1,97 @@
+-- Money: a seat lays in a round its stake, its insurance, and S again for each double and split. Its purse is its buys − cashes − all it
+-- laid + all its prizes; for each closed round add what it laid and its nets; for each voided round add what it laid and take its prizes
+-- off. Its layout money is what it laid in the round not yet ended. These sums may pass below 0 on the way.
+use mathlib.Core.Bool.{Bool, cond, _&&_, _||_}
+use mathlib.Core.List.{List, [], _∷_}
+use Prim.Native.Nat.{ℕ, _+_}
+use lib.IntN.{ℤ, pos, _+ℤ_, _-ℤ_}
+use lib.ListN.{getD}
+use Rattle.options.specs.declared.Options.{Options}
+use Rattle.standing.specs.declared.bank.Score.{Score}
+use Rattle.standing.specs.SeatHand.{Played}
+use Rattle.standing.specs.Bank.{scoreOf}
+use Rattle.standing.specs.Turn.{waitingPlace}
+use Rattle.payment.specs.Pay.{net}
+use Rattle.payment.specs.HandPay.{handPay}
+use Rattle.payment.specs.Insurance.{insurancePay}
+use Rattle.payment.specs.Prize.{prize}
+use Rattle.history.specs.Entry.{Entry, isOf, isFill, isCredit, isBuy, isCash, isStake, isInsure, isDraw, isDouble, isSplit, isClose, isVoid, isEnd, amountOf}
+use Rattle.history.specs.Rounds.{stakeIn, insuranceIn}
+use Rattle.history.specs.Cards.{Cards, cardsOfHistory, bankFinal}
+use Rattle.history.specs.Hands.{noHand, grown, nextCard, handsIn}
+
+-- Money that came and went with the house's and the cashier's calls, over all seats.
+abbrev pub cameIn : List Entry → ℕ
+cameIn [] = 0
+cameIn (e ∷ es) = cond (isFill e || isBuy e) (amountOf e) 0 + cameIn es
+
+abbrev pub wentOut : List Entry → ℕ
+wentOut [] = 0
+wentOut (e ∷ es) = cond (isCredit e || isCash e) (amountOf e) 0 + wentOut es
+
+-- The seat's buys and cashes.
+abbrev pub bought : List Entry → ℕ → ℕ
+bought [] i = 0
+bought (e ∷ es) i = cond (isBuy e && isOf i e) (amountOf e) 0 + bought es i
+
+abbrev pub cashed : List Entry → ℕ → ℕ
+cashed [] i = 0
+cashed (e ∷ es) i = cond (isCash e && isOf i e) (amountOf e) 0 + cashed es i
+
+-- What a call of the seat lays, S being its stake in the round.
+unfoldable pub lays : ℕ → ℕ → Entry → ℕ
+lays i S e = cond (isOf i e) (cond (isStake e || isInsure e) (amountOf e) (cond (isDouble e || isSplit e) S 0)) 0
+
+-- All that the seat laid, and what it laid in the round not yet ended: its layout money.
+abbrev pub laidEver : List Entry → ℕ → ℕ
+laidEver [] i = 0
+laidEver (e ∷ es) i = lays i (stakeIn es i) e + laidEver es i
+
+abbrev pub laidIn : List Entry → ℕ → ℕ
+laidIn [] i = 0
+laidIn (e ∷ es) i = cond (isEnd e) 0 (lays i (stakeIn es i) e + laidIn es i)
+
+-- The prize that a call of the seat makes: of the hand whose turn it is, once it has the card that a draw or a double gives it.
+unfoldable pub wins : Options → Cards → ℕ → ℕ → List Played → Entry → ℕ
+wins o c i S hands e =
+    cond (isOf i e && (isDraw e || isDouble e))
+    (prize o S (grown (getD hands (waitingPlace o (getD (c .bank) 0 0) hands) noHand) (nextCard c 0))) 0
+
+module _ (o : Options) (opening : List ℕ) where
+  -- The prize of a call after these, all prizes of the seat, and those of the round not yet ended.
+  abbrev pub prizeOf : List Entry → ℕ → Entry → ℕ
+  prizeOf es i e = wins o (cardsOfHistory o opening es) i (stakeIn es i) (handsIn o opening es i) e
+
+  abbrev pub prizesEver : List Entry → ℕ → ℕ
+  prizesEver [] i = 0
+  prizesEver (e ∷ es) i = prizeOf es i e + prizesEver es i
+
+  abbrev pub prizesIn : List Entry → ℕ → ℕ
+  prizesIn [] i = 0
+  prizesIn (e ∷ es) i = cond (isEnd e) 0 (prizeOf es i e + prizesIn es i)
+
+  -- The nets of a seat's hands and of its insurance, if the round closes now.
+  abbrev pub closingScore : List Entry → Score
+  closingScore es = scoreOf (bankFinal o (cardsOfHistory o opening es))
+
+  abbrev pub handNets : Score → ℕ → List Played → ℤ
+  handNets bank S [] = pos 0
+  handNets bank S (h ∷ hs) = net (handPay o bank S h) +ℤ handNets bank S hs
+
+  abbrev pub netsOf : List Entry → ℕ → ℤ
+  netsOf es i = handNets (closingScore es) (stakeIn es i) (handsIn o opening es i) +ℤ net (insurancePay (closingScore es) (insuranceIn es i))
+
+  -- What a call adds that ends a round: for a closed round what the seat laid and its nets; for a voided round what it laid less its prizes.
+  abbrev pub endedBy : List Entry → ℕ → Entry → ℤ
+  endedBy es i e =
+      cond (isClose e) (pos (laidIn es i) +ℤ netsOf es i)
+      (cond (isVoid e) (pos (laidIn es i) -ℤ pos (prizesIn es i))
+      (pos 0))
+
+  abbrev pub ended : List Entry → ℕ → ℤ
+  ended [] i = pos 0
+  ended (e ∷ es) i = endedBy es i e +ℤ ended es i
+
+  -- The seat's purse.
+  abbrev pub purseOf : List Entry → ℕ → ℤ
+  purseOf es i = pos (bought es i) -ℤ pos (cashed es i) -ℤ pos (laidEver es i) +ℤ pos (prizesEver es i) +ℤ ended es i

@@ -1,0 +1,26 @@
+-- Rounds: a round starts after the opening or after an accepted close or void, and ends with the next of these two.
+use mathlib.Core.Bool.{Bool, true, false, cond, _&&_}
+use mathlib.Core.List.{List, [], _∷_}
+use Prim.Native.Nat.{ℕ}
+use lib.Dec.{ltb}
+use Rattle.lists.specs.Below.{sumBelow}
+use Rattle.history.specs.Entry.{Entry, isOf, isStake, isDeal, isInsure, isEnd, amountOf}
+
+-- A round is dealt: after its deal, until it ends.
+abbrev pub isDealtRound : List Entry → Bool
+isDealtRound [] = false
+isDealtRound (e ∷ es) = cond (isEnd e) false (cond (isDeal e) true (isDealtRound es))
+
+-- S: what the seat staked in this round; 0 where it has not.
+abbrev pub stakeIn : List Entry → ℕ → ℕ
+stakeIn [] i = 0
+stakeIn (e ∷ es) i = cond (isEnd e) 0 (cond (isStake e && isOf i e) (amountOf e) (stakeIn es i))
+
+-- I: what it laid as insurance in this round.
+abbrev pub insuranceIn : List Entry → ℕ → ℕ
+insuranceIn [] i = 0
+insuranceIn (e ∷ es) i = cond (isEnd e) 0 (cond (isInsure e && isOf i e) (amountOf e) (insuranceIn es i))
+
+-- How many seats below that number have staked in this round.
+abbrev pub stakedBelow : List Entry → ℕ → ℕ
+stakedBelow es n = sumBelow (λ k. cond (ltb 0 (stakeIn es k)) 1 0) n

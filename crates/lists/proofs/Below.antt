@@ -1,0 +1,53 @@
+-- Laws of tests and sums over the numbers below a number.
+use mathlib.Core.Path.{_≡_, refl, ap, _∙_, sym}
+use mathlib.Core.Bool.{Bool, true, and-eq-true-iff}
+use mathlib.Core.List.{List, [], _∷_}
+use Prim.Native.Nat.{ℕ, zero, suc, _+_, _≤_, _<_}
+use native.Mathlib.Nat.{not-suc-le-zero, add-zero, add-suc}
+use native.Mathlib.Decide.{decLe}
+use native.Mathlib.Omega.{arith}
+use lib.ListN.{length, getD}
+use Rattle.lists.specs.Sum.{sum}
+use Rattle.lists.specs.Below.{allBelow, sumBelow}
+
+-- what every number below passes, one of them passes
+pub all-below : (f : ℕ → Bool) (n k : ℕ) → allBelow f n ≡ true → k < n → f k ≡ true
+unfolding allBelow
+all-below f zero k t h = absurd (not-suc-le-zero h)
+all-below f (suc n) k t h = go (decLe n k) (λ l. all-below f n k (both .0) l)
+  where
+    both : (allBelow f n ≡ true) × (f n ≡ true)
+    both = and-eq-true-iff (allBelow f n) (f n) .0 t
+
+    go : Dec (n ≤ k) → (k < n → f k ≡ true) → f k ≡ true
+    go (yes l) rec = let same : k ≡ n = omega arith in ap f same ∙ both .1
+    go (no l) rec = rec (omega arith)
+
+pub below-all : (f : ℕ → Bool) (n : ℕ) → ((k : ℕ) → k < n → f k ≡ true) → allBelow f n ≡ true
+unfolding allBelow
+below-all f zero h = refl
+below-all f (suc n) h = and-eq-true-iff (allBelow f n) (f n) .1 (below-all f n (λ k l. h k (omega arith)), h n (omega arith))
+
+-- equal numbers below have equal sums
+pub sum-below-same : (f g : ℕ → ℕ) (n : ℕ) → ((k : ℕ) → k < n → f k ≡ g k) → sumBelow f n ≡ sumBelow g n
+unfolding sumBelow
+sum-below-same f g zero h = refl
+sum-below-same f g (suc n) h = omega (arith, sum-below-same f g n (λ k l. h k (omega arith)), h n (omega arith))
+
+-- zeros behind add nothing
+pub sum-below-more : (f : ℕ → ℕ) (n k : ℕ) → ((i : ℕ) → n ≤ i → f i ≡ 0) → sumBelow f (n + k) ≡ sumBelow f n
+unfolding sumBelow
+sum-below-more f n zero h = rw add-zero
+sum-below-more f n (suc k) h = rw add-suc (omega (arith, sum-below-more f n k h, h (n + k) (omega arith)))
+
+-- the first number apart
+sum-below-first : (f : ℕ → ℕ) (n : ℕ) → sumBelow f (suc n) ≡ f 0 + sumBelow (λ k. f (suc k)) n
+unfolding sumBelow
+sum-below-first f zero = omega arith
+sum-below-first f (suc n) = omega (arith, sum-below-first f n)
+
+-- a sum over a list, by place
+pub sum-by-place : {A : Type 0} (f : A → ℕ) (xs : List A) (d : A) → sum f xs ≡ sumBelow (λ i. f (getD xs i d)) (length xs)
+unfolding sum sumBelow
+sum-by-place f [] d = refl
+sum-by-place f (x ∷ xs) d = ap (λ (n : ℕ). f x + n) (sum-by-place f xs d) ∙ sym (sum-below-first (λ i. f (getD (x ∷ xs) i d)) (length xs))

@@ -1,0 +1,4 @@
+-- Close: the bank's cards, the pay lines and the end of the round.
+pub mod BankDraw
+pub mod Lines
+pub mod Close

@@ -1,0 +1,273 @@
+-- A table is sound where the facts of `Sound` hold, and only there. The arrays' lengths tie a count to what it counts.
+use mathlib.Core.Path.{_≡_, refl, _∙_}
+use mathlib.Core.Bool.{Bool, true, false, cond, not, _&&_, _||_, or-true, or-false}
+use mathlib.Core.List.{[], _∷_, _++_}
+use Prim.Native.Nat.{ℕ, _+_, _*_, _≤_, _<_}
+use native.Mathlib.Decide.{decLe}
+use native.Mathlib.Omega.{arith}
+use lib.Dec.{ltb, leb, eqb}
+use lib.ListN.{length, take, getD, length-take, length-append, length-map, length-drop}
+use lib.Seq.{getD-take, length-take-le}
+use borrow.Author.Tests.{ltb-true, ltb-false, leb-true, eqb-true, lt-ltb, le-ltb, le-leb, eq-eqb, ne-eqb, not-true}
+use Rattle.lists.specs.Sum.{count, sum}
+use Rattle.lists.specs.Tests.{all}
+use Rattle.lists.specs.Below.{allBelow}
+use Rattle.lists.proofs.Tests.{and-at, or-other, or-unless, test-some, some-test, test-where, where-test, all-at, at-all}
+use Rattle.lists.proofs.Below.{all-below, below-all}
+use Rattle.cards.specs.Card.{isAce}
+use Rattle.hands.specs.Hand.{cardsOf}
+use Rattle.hands.specs.Length.{couldBePlayed}
+use Rattle.options.specs.declared.Options.{Options}
+use Rattle.options.specs.Ranges.{inRange}
+use Rattle.options.specs.Facts.{InRange}
+use Rattle.options.proofs.Facts.{in-range-facts}
+use Rattle.standing.specs.declared.seat_hand.SeatHand.{SeatHand}
+use Rattle.standing.proofs.Places.{many-hands}
+use Rattle.table.specs.declared.Seat.{Seat}
+use Rattle.table.specs.declared.Table.{Table}
+use Rattle.table.specs.Seat.{noPlace, purse, stake, insurance, isStaked, hands, laid, prizes}
+use Rattle.table.specs.Shoe.{validOrder}
+use Rattle.table.specs.Table.{seatAt, isDealt, up, someStaked, tableOrder, tableDrawn, tableDiscards, handCards, bankCards, tableShoe, cardsLeft}
+use Rattle.table.specs.Money.{limit, allMoney, allPrizes, allCover}
+use Rattle.table.specs.Faces.{outCards}
+use Rattle.table.specs.Broken.{sound, soundShoe, soundFaces, soundBank, soundMoney, soundSeat, soundNumber, soundStake, soundInsurance, soundHands, soundPrizes, soundHand, insurancePermitted}
+use Rattle.table.specs.Sound.{Sound, SoundSeat, SoundHand, Insured, Playing, Nothing}
+
+-- A hand.
+hand-facts : (h : SeatHand) → soundHand h ≡ true → SoundHand h
+unfolding soundHand
+hand-facts h e =
+    let n = h .hand .count in
+    let tests = leb 2 n ∷ leb n 20 ∷ couldBePlayed (cardsOf (h .hand)) ∷ leb (h .origin) 2 ∷ leb (h .ended) 5 ∷ [] in
+    let test = and-at tests e in
+    record {
+      two-cards = leb-true _ _ (test 0);
+      twenty-cards = leb-true _ _ (test 1);
+      played = test 2;
+      origin = leb-true _ _ (test 3);
+      ended = leb-true _ _ (test 4);
+    }
+
+facts-hand : (h : SeatHand) → SoundHand h → soundHand h ≡ true
+unfolding soundHand
+facts-hand h f = simp (le-leb _ _ (f .two-cards), le-leb _ _ (f .twenty-cards), f .played, le-leb _ _ (f .origin), le-leb _ _ (f .ended))
+
+-- A seat beyond the option.
+number-facts : (o : Options) (i : ℕ) (s : Seat) → soundNumber o i s ≡ true → o .seats ≤ i → Nothing s
+unfolding soundNumber
+number-facts o i s e beyond =
+    let tests = eqb (purse s) 0 ∷ eqb (stake s) 0 ∷ eqb (insurance s) 0 ∷ eqb (s .hands .many) 0 ∷ [] in
+    let test = and-at tests (or-other (ltb i (o .seats)) _ e (le-ltb _ _ beyond)) in
+    record {
+      no-purse = eqb-true _ _ (test 0);
+      no-stake = eqb-true _ _ (test 1);
+      no-insurance = eqb-true _ _ (test 2);
+      no-hands = eqb-true _ _ (test 3);
+    }
+
+nothing-test : (s : Seat) → Nothing s → eqb (purse s) 0 && eqb (stake s) 0 && eqb (insurance s) 0 && eqb (s .hands .many) 0 ≡ true
+nothing-test s f = simp (f .no-purse, f .no-stake, f .no-insurance, f .no-hands)
+
+facts-number : (o : Options) (i : ℕ) (s : Seat) → (o .seats ≤ i → Nothing s) → soundNumber o i s ≡ true
+unfolding soundNumber
+facts-number o i s f = or-unless (ltb i (o .seats)) _ (λ beyond. nothing-test s (f (ltb-false _ _ beyond)))
+
+-- An insurance.
+insurance-facts : (t : Table) (s : Seat) → soundInsurance t s ≡ true → 0 < insurance s → Insured (t .options) (isDealt t) (isAce (up t)) s
+unfolding soundInsurance
+insurance-facts t s e some =
+    let tests = isDealt t ∷ isAce (up t) ∷ isStaked s ∷ insurancePermitted (t .options) (stake s) (insurance s) ∷ [] in
+    let test = and-at tests (test-some (insurance s) _ e some) in
+    record { in-round = test 0; ace-up = test 1; staked = ltb-true _ _ (test 2); permitted = test 3 }
+
+insured-test : (t : Table) (s : Seat) → Insured (t .options) (isDealt t) (isAce (up t)) s → isDealt t && isAce (up t) && isStaked s && insurancePermitted (t .options) (stake s) (insurance s) ≡ true
+insured-test t s f = simp (f .in-round, f .ace-up, lt-ltb _ _ (f .staked), f .permitted)
+
+facts-insurance : (t : Table) (s : Seat) → (0 < insurance s → Insured (t .options) (isDealt t) (isAce (up t)) s) → soundInsurance t s ≡ true
+unfolding soundInsurance
+facts-insurance t s f = some-test (insurance s) _ (λ some. insured-test t s (f some))
+
+-- The hands of a seat.
+waiting-facts : (t : Table) (s : Seat) → soundHands t s ≡ true → s .hands .many ≡ 0 → isDealt t ≡ true → stake s ≡ 0
+unfolding soundHands
+waiting-facts t s e none round =
+    let idle : not (ltb 0 (stake s)) ≡ true = simp (none, round, or-false) at e in
+    omega (arith, ltb-false 0 (stake s) (not-true _ idle))
+
+playing-facts : (t : Table) (s : Seat) → t .options .hands ≤ length (s .hands .places) → soundHands t s ≡ true → 0 < s .hands .many → Playing (t .options) (isDealt t) s
+unfolding soundHands
+playing-facts t s room e some =
+    let n = s .hands .many in
+    let tests = ltb 0 n ∷ leb n (t .options .hands) ∷ isDealt t ∷ isStaked s ∷ all soundHand (take n (s .hands .places)) ∷ [] in
+    let test = and-at tests (simp (ne-eqb n 0 (λ none. omega arith)) at e) in
+    let within : n ≤ t .options .hands = leb-true _ _ (test 1) in
+    let many : length (take n (s .hands .places)) ≡ n = length-take-le n (s .hands .places) (omega arith) in
+    record {
+      in-round = test 2;
+      staked = ltb-true _ _ (test 3);
+      within = within;
+      each = λ p h. hand-facts _ (rw getD-take at (all-at soundHand (take n (s .hands .places)) p noPlace (test 4) (omega arith)));
+    }
+
+each-test : (s : Seat) → ((p : ℕ) → p < s .hands .many → SoundHand (getD (s .hands .places) p noPlace)) → all soundHand (take (s .hands .many) (s .hands .places)) ≡ true
+each-test s f =
+    at-all soundHand (take (s .hands .many) (s .hands .places)) noPlace (λ p h.
+    let used : p < s .hands .many = omega (arith, length-take (s .hands .many) (s .hands .places)) in
+    rw getD-take (facts-hand _ (f p used)))
+
+facts-hands : (t : Table) (s : Seat)
+    → (s .hands .many ≡ 0 → isDealt t ≡ true → stake s ≡ 0)
+    → (0 < s .hands .many → Playing (t .options) (isDealt t) s)
+    → soundHands t s ≡ true
+unfolding soundHands
+facts-hands t s waits plays = go (decLe (s .hands .many) 0)
+  where
+    idle : (b : Bool) → isDealt t ≡ b → s .hands .many ≡ 0 → isDealt t && isStaked s ≡ false
+    idle true round none = rw round (le-ltb 0 (stake s) (omega (arith, waits none round)))
+    idle false round none = rw round
+
+    go : Dec (s .hands .many ≤ 0) → soundHands t s ≡ true
+    go (yes h) = let none : s .hands .many ≡ 0 = omega arith in simp (none, idle (isDealt t) refl none)
+    go (no h) =
+        let f = plays (omega arith) in
+        simp (f .in-round, lt-ltb _ _ (f .staked), le-leb _ _ (f .within), lt-ltb 0 (s .hands .many) (omega arith), each-test s (f .each), or-true)
+
+-- A seat.
+seat-facts : (t : Table) (i : ℕ) (s : Seat) → t .options .hands ≤ length (s .hands .places) → soundSeat t i s ≡ true → SoundSeat (t .options) (isDealt t) (isAce (up t)) i s
+unfolding soundSeat soundStake soundPrizes
+seat-facts t i s room e =
+    let tests = soundNumber (t .options) i s ∷ soundStake (t .options) s ∷ soundInsurance t s ∷ soundHands t s ∷ soundPrizes (t .options) s ∷ [] in
+    let test = and-at tests e in
+    record {
+      beyond = number-facts (t .options) i s (test 0);
+      stake-fits = test-some (stake s) _ (test 1);
+      insured = insurance-facts t s (test 2);
+      waiting = waiting-facts t s (test 3);
+      playing = playing-facts t s room (test 3);
+      prizes-back = leb-true _ _ (test 4);
+    }
+
+facts-seat : (t : Table) (i : ℕ) (s : Seat) → SoundSeat (t .options) (isDealt t) (isAce (up t)) i s → soundSeat t i s ≡ true
+unfolding soundSeat soundStake soundPrizes
+facts-seat t i s f =
+    simp (
+      facts-number (t .options) i s (f .beyond),
+      some-test (stake s) _ (f .stake-fits),
+      facts-insurance t s (f .insured),
+      facts-hands t s (f .waiting) (f .playing),
+      le-leb _ _ (f .prizes-back),
+    )
+
+-- The bank.
+bank-facts : (t : Table) → soundBank t ≡ true → (t .bank .count ≤ 1) × (isDealt t ≡ true → someStaked t ≡ true)
+unfolding soundBank
+bank-facts t e = go (decLe (t .bank .count) 0)
+  where
+    go : Dec (t .bank .count ≤ 0) → (t .bank .count ≤ 1) × (isDealt t ≡ true → someStaked t ≡ true)
+    go (yes h) = (omega arith, λ round. absurd (omega (arith, ltb-true 0 (length (bankCards t)) round, length-take (t .bank .count) (t .bank .cards))))
+    go (no h) =
+        let test = and-at (eqb (t .bank .count) 1 ∷ someStaked t ∷ []) (test-some (t .bank .count) _ e (omega arith)) in
+        (omega (arith, eqb-true (t .bank .count) 1 (test 0)), λ round. test 1)
+
+facts-bank : (t : Table) → length (t .bank .cards) ≡ 20 → t .bank .count ≤ 1 → (isDealt t ≡ true → someStaked t ≡ true) → soundBank t ≡ true
+unfolding soundBank
+facts-bank t twenty one f =
+    some-test (t .bank .count) _ (λ some.
+    let round : isDealt t ≡ true = lt-ltb 0 (length (bankCards t)) (omega (arith, length-take (t .bank .count) (t .bank .cards))) in
+    simp (eq-eqb (t .bank .count) 1 (omega arith), f round))
+
+pub sound-facts : (t : Table) → ((i : ℕ) → i < 9 → length (seatAt t i .hands .places) ≡ 4) → sound t ≡ true → Sound t
+unfolding sound soundShoe soundFaces soundMoney
+sound-facts t four e =
+    let tests = inRange (t .options) ∷ soundShoe t ∷ soundFaces t ∷ allBelow (λ i. soundSeat t i (seatAt t i)) 9 ∷ soundBank t ∷ soundMoney t ∷ [] in
+    let test = and-at tests e in
+    let shoe = and-at (validOrder (t .options .decks) (tableOrder t) ∷ leb (t .shoe .drawn) (52 * t .options .decks) ∷ leb (t .shoe .discarded) 416 ∷ []) (test 1) in
+    let faces = and-at (allBelow (λ b. eqb (count b (outCards t)) (count b (tableDrawn t))) 256 ∷ eqb (length (outCards t)) (t .shoe .drawn) ∷ []) (test 2) in
+    let money = and-at (leb (allMoney t) limit ∷ (not (isDealt t) || leb (allCover t) (t .tray + allPrizes t)) ∷ []) (test 5) in
+    let fits = in-range-facts (t .options) (test 0) .hands-most in
+    record {
+      options = test 0;
+      valid = shoe 0;
+      drawn = leb-true _ _ (shoe 1);
+      discarded = leb-true _ _ (shoe 2);
+      faces = λ b h. eqb-true _ _ (all-below _ 256 b (faces 0) h);
+      number = eqb-true _ _ (faces 1);
+      seats = λ i h. seat-facts t i (seatAt t i) (omega (arith, four i h)) (all-below (λ k. soundSeat t k (seatAt t k)) 9 i (test 3) h);
+      bank = bank-facts t (test 4) .0;
+      round = bank-facts t (test 4) .1;
+      money = leb-true _ _ (money 0);
+      cover = λ round. leb-true _ _ (test-where (isDealt t) _ (money 1) round);
+    }
+
+pub facts-sound : (t : Table) → length (t .bank .cards) ≡ 20 → Sound t → sound t ≡ true
+unfolding sound soundShoe soundFaces soundMoney
+facts-sound t twenty f =
+    simp (
+      f .options,
+      f .valid,
+      le-leb _ _ (f .drawn),
+      le-leb _ _ (f .discarded),
+      below-all (λ b. eqb (count b (outCards t)) (count b (tableDrawn t))) 256 (λ b h. eq-eqb _ _ (f .faces b h)),
+      eq-eqb _ _ (f .number),
+      below-all (λ i. soundSeat t i (seatAt t i)) 9 (λ i h. facts-seat t i (seatAt t i) (f .seats i h)),
+      facts-bank t twenty (f .bank) (f .round),
+      le-leb _ _ (f .money),
+      where-test (isDealt t) _ (λ round. le-leb _ _ (f .cover round)),
+    )
+
+-- What the facts give.
+pub sound-options : (t : Table) → Sound t → InRange (t .options)
+sound-options t f = in-range-facts (t .options) (f .options)
+
+pub decks-416 : (t : Table) → Sound t → 52 * t .options .decks ≤ 416
+decks-416 t f = omega (arith, sound-options t f .decks-most)
+
+-- an insurance is at most the stake
+pub insurance-most : (o : Options) (S I : ℕ) → insurancePermitted o S I ≡ true → I ≤ S
+unfolding insurancePermitted
+insurance-most o S I e = go (eqb (o .insurance) 1) e
+  where
+    go : (half : Bool) → cond half (eqb (2 * I) S) (leb S (2 * I) && leb I S) ≡ true → I ≤ S
+    go true e = omega (arith, eqb-true (2 * I) S e)
+    go false e = leb-true I S (and-at (leb S (2 * I) ∷ leb I S ∷ []) e 1)
+
+-- the cards drawn are those of hands and bank and the discards
+pub room-discards : (t : Table) → length (t .shoe .discards) ≡ 416 → Sound t → length (handCards t ++ bankCards t) + t .shoe .discarded ≡ t .shoe .drawn
+room-discards t full f =
+    omega (arith, length-append (handCards t ++ bankCards t) (tableDiscards t), length-take (t .shoe .discarded) (t .shoe .discards))
+
+-- in a dealt round the up card is drawn
+pub dealt-drawn : (t : Table) → Sound t → isDealt t ≡ true → 0 < t .shoe .drawn
+dealt-drawn t f round =
+    omega (arith, length-append (handCards t ++ bankCards t) (tableDiscards t), length-append (handCards t) (bankCards t), ltb-true 0 (length (bankCards t)) round)
+
+-- a seat has as many hands as its number of hands says: that is 0, or at most the option's
+pub hands-many : (s : Seat) → length (s .hands .places) ≡ 4 → s .hands .many ≤ 4 → length (hands s) ≡ s .hands .many
+hands-many s four few = omega (arith, many-hands (s .hands) four)
+
+pub most-many : (o : Options) (dealt ace : Bool) (i : ℕ) (s : Seat) → o .hands ≤ 4 → SoundSeat o dealt ace i s → s .hands .many ≤ 4
+most-many o dealt ace i s most f = go (decLe (s .hands .many) 0)
+  where
+    go : Dec (s .hands .many ≤ 0) → s .hands .many ≤ 4
+    go (yes h) = omega arith
+    go (no h) = omega (arith, f .playing (omega arith) .within)
+
+pub few-hands : (o : Options) (dealt ace : Bool) (i : ℕ) (s : Seat) → o .hands ≤ 4 → SoundSeat o dealt ace i s → length (hands s) ≤ 4
+few-hands o dealt ace i s most f = simp (length-map, length-take) (omega (arith, most-many o dealt ace i s most f))
+
+-- a seat without hands: what it laid is its stake, and it has no prize
+pub no-hands : (s : Seat) → s .hands .many ≡ 0 → hands s ≡ []
+no-hands s none = rw none
+
+pub laid-stake : (s : Seat) → s .hands .many ≡ 0 → laid s ≡ stake s
+unfolding laid
+laid-stake s none = rw none
+
+pub no-prizes : (o : Options) (s : Seat) → s .hands .many ≡ 0 → prizes o s ≡ 0
+unfolding prizes sum
+no-prizes o s none = rw none
+
+-- the cards left are as many as the count says
+pub cards-left : (t : Table) → length (t .shoe .order) ≡ 416 → Sound t → length (tableShoe t) ≡ cardsLeft t
+cards-left t full sound =
+    length-drop (t .shoe .drawn) (tableOrder t) ∙ omega (arith, length-take (52 * t .options .decks) (t .shoe .order), decks-416 t sound)

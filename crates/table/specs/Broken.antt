@@ -1,0 +1,81 @@
+-- Number 1: broken table. docs/BROKEN.md says it in words. A table is broken unless it is sound, and each part of sound is one test.
+use mathlib.Core.Bool.{Bool, true, false, cond, not, _&&_, _||_}
+use Prim.Native.Nat.{ℕ, _+_, _*_}
+use lib.Dec.{ltb, leb, eqb}
+use lib.ListN.{length, take}
+use Rattle.lists.specs.Sum.{count}
+use Rattle.lists.specs.Tests.{all}
+use Rattle.lists.specs.Below.{allBelow}
+use Rattle.cards.specs.Card.{isAce}
+use Rattle.hands.specs.Hand.{cardsOf}
+use Rattle.hands.specs.Length.{couldBePlayed}
+use Rattle.options.specs.declared.Options.{Options}
+use Rattle.options.specs.Ranges.{inRange, isEven}
+use Rattle.standing.specs.declared.seat_hand.SeatHand.{SeatHand}
+use Rattle.table.specs.declared.Seat.{Seat}
+use Rattle.table.specs.declared.Table.{Table}
+use Rattle.table.specs.Seat.{purse, stake, insurance, isStaked, laid, prizes}
+use Rattle.table.specs.Shoe.{validOrder}
+use Rattle.table.specs.Table.{seatAt, isDealt, up, someStaked, tableOrder, tableDrawn}
+use Rattle.table.specs.Money.{limit, allMoney, allPrizes, allCover}
+use Rattle.table.specs.Faces.{outCards}
+
+-- A stake that the options permit: within them, and even.
+unfoldable pub stakePermitted : Options → ℕ → Bool
+stakePermitted o S = leb (o .smallest) S && leb S (o .largest) && isEven S
+
+-- An insurance that the options permit: 1 exactly half the stake, 2 half to whole.
+unfoldable pub insurancePermitted : Options → ℕ → ℕ → Bool
+insurancePermitted o S I = cond (eqb (o .insurance) 1) (eqb (2 * I) S) (leb S (2 * I) && leb I S)
+
+-- A hand in use: 2 to 20 cards that could have been played, codes in range.
+unfoldable pub soundHand : SeatHand → Bool
+soundHand h = leb 2 (h .hand .count) && leb (h .hand .count) 20 && couldBePlayed (cardsOf (h .hand)) && leb (h .origin) 2 && leb (h .ended) 5
+
+-- A seat beyond the option holds nothing.
+unfoldable pub soundNumber : Options → ℕ → Seat → Bool
+soundNumber o i s = ltb i (o .seats) || (eqb (purse s) 0 && eqb (stake s) 0 && eqb (insurance s) 0 && eqb (s .hands .many) 0)
+
+-- A stake is 0 or permitted; an insurance is 0, or permitted for the stake with an ace up in a dealt round.
+unfoldable pub soundStake : Options → Seat → Bool
+soundStake o s = eqb (stake s) 0 || stakePermitted o (stake s)
+
+unfoldable pub soundInsurance : Table → Seat → Bool
+soundInsurance t s = eqb (insurance s) 0 || (isDealt t && isAce (up t) && isStaked s && insurancePermitted (t .options) (stake s) (insurance s))
+
+-- A seat has a hand exactly if a round is dealt and it has a stake; it has no more hands than the option gives, each of them sound.
+unfoldable pub soundHands : Table → Seat → Bool
+soundHands t s =
+    eqb (s .hands .many) 0 && not (isDealt t && isStaked s)
+    || ltb 0 (s .hands .many) && leb (s .hands .many) (t .options .hands) && isDealt t && isStaked s && all soundHand (take (s .hands .many) (s .hands .places))
+
+-- A void can take a seat's prizes back: they are within its purse and what it laid.
+unfoldable pub soundPrizes : Options → Seat → Bool
+soundPrizes o s = leb (prizes o s) (purse s + laid s)
+
+unfoldable pub soundSeat : Table → ℕ → Seat → Bool
+soundSeat t i s =
+    soundNumber (t .options) i s && soundStake (t .options) s && soundInsurance t s && soundHands t s && soundPrizes (t .options) s
+
+-- The order is valid, at most all of it is drawn, and there is room for every discard.
+unfoldable pub soundShoe : Table → Bool
+soundShoe t = validOrder (t .options .decks) (tableOrder t) && leb (t .shoe .drawn) (52 * t .options .decks) && leb (t .shoe .discarded) 416
+
+-- Of every byte value, hands, bank and discards hold as many cards as the drawn part of the order, and as many in all.
+unfoldable pub soundFaces : Table → Bool
+soundFaces t = allBelow (λ b. eqb (count b (outCards t)) (count b (tableDrawn t))) 256 && eqb (length (outCards t)) (t .shoe .drawn)
+
+-- The bank has at most one card; in a dealt round some seat has a stake.
+unfoldable pub soundBank : Table → Bool
+soundBank t = eqb (t .bank .count) 0 || (eqb (t .bank .count) 1 && someStaked t)
+
+-- All money is within 10^15; in a dealt round the tray with the prizes paid covers every stake.
+unfoldable pub soundMoney : Table → Bool
+soundMoney t = leb (allMoney t) limit && (not (isDealt t) || leb (allCover t) (t .tray + allPrizes t))
+
+unfoldable pub sound : Table → Bool
+sound t =
+    inRange (t .options) && soundShoe t && soundFaces t && allBelow (λ i. soundSeat t i (seatAt t i)) 9 && soundBank t && soundMoney t
+
+abbrev pub broken : Table → Bool
+broken t = not (sound t)

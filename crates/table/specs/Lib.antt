@@ -1,0 +1,9 @@
+-- The state, its views, its money and its faces, and when it is broken.
+pub mod Seat
+pub mod Shoe
+pub mod Table
+pub mod Money
+pub mod Faces
+pub mod Broken
+pub mod Shape
+pub mod Sound

@@ -1,0 +1,26 @@
+-- The money on the table, as sums over the seats.
+use Prim.Native.Nat.{ℕ, _+_}
+use Rattle.lists.specs.Sum.{sum}
+use Rattle.table.specs.declared.Table.{Table}
+use Rattle.table.specs.Seat.{purse, laid, prizes, seatCover}
+
+-- All money on the table is at most 10^15.
+abbrev pub limit : ℕ
+limit = 1000000000000000
+
+-- What lies on the layout, and what is in the purses.
+abbrev pub layout : Table → ℕ
+layout t = sum laid (t .seats)
+
+abbrev pub purses : Table → ℕ
+purses t = sum purse (t .seats)
+
+abbrev pub allMoney : Table → ℕ
+allMoney t = t .tray + layout t + purses t
+
+-- The prizes paid in this round, and what the tray must hold at the deal: 20 × all stakes.
+abbrev pub allPrizes : Table → ℕ
+allPrizes t = sum (prizes (t .options)) (t .seats)
+
+abbrev pub allCover : Table → ℕ
+allCover t = sum seatCover (t .seats)

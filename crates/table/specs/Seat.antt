@@ -1,0 +1,73 @@
+-- A seat of the table: its hands by place, and its sums. Everything above a seat reaches money only through these.
+use mathlib.Core.Bool.{Bool, cond}
+use mathlib.Core.List.{List, []}
+use Prim.Native.Nat.{ℕ, _+_}
+use lib.Dec.{ltb, eqb}
+use lib.ListN.{length, set, replicate}
+use Rattle.lists.specs.Sum.{sum}
+use Rattle.lists.specs.Flat.{flat}
+use Rattle.hands.specs.Hand.{emptyHand}
+use Rattle.options.specs.declared.Options.{Options}
+use Rattle.standing.specs.declared.seat_hand.SeatHand.{SeatHand}
+use Rattle.standing.specs.declared.seat_hand.SeatHands.{SeatHands}
+use Rattle.standing.specs.SeatHand.{Played, handsOf, dealt, notEnded}
+use Rattle.payment.specs.Wager.{wager}
+use Rattle.payment.specs.Prize.{prize}
+use Rattle.payment.specs.Cover.{cover}
+use Rattle.table.specs.declared.Money.{Money}
+use Rattle.table.specs.declared.Seat.{Seat}
+
+-- A guest's money.
+abbrev pub money : ℕ → ℕ → ℕ → Money
+money purse stake insurance = record { purse = purse; stake = stake; insurance = insurance }
+
+abbrev pub makeSeat : Money → SeatHands → Seat
+makeSeat m hands = record { money = m; hands = hands }
+
+-- A place that no hand uses, and a seat's four places with no hand.
+abbrev pub emptyPlace : SeatHand
+emptyPlace = record { hand = emptyHand; origin = dealt; ended = notEnded }
+
+abbrev pub noHands : SeatHands
+noHands = record { places = replicate 4 emptyPlace; many = 0 }
+
+-- What stands where a seat has no such place, or the table no such seat.
+abbrev pub noPlace : SeatHand
+noPlace = record { hand = record { cards = []; count = 0 }; origin = dealt; ended = notEnded }
+
+abbrev pub noSeat : Seat
+noSeat = makeSeat (money 0 0 0) (record { places = []; many = 0 })
+
+-- The seat's purse, its stake S and its insurance; 0 where there is none.
+abbrev pub purse : Seat → ℕ
+purse s = s .money .purse
+
+abbrev pub stake : Seat → ℕ
+stake s = s .money .stake
+
+abbrev pub insurance : Seat → ℕ
+insurance s = s .money .insurance
+
+-- The seat has a stake.
+abbrev pub isStaked : Seat → Bool
+isStaked s = ltb 0 (stake s)
+
+-- The seat's hands, by place.
+abbrev pub hands : Seat → List Played
+hands s = handsOf (s .hands)
+
+-- The cards of its hands, by place.
+abbrev pub seatCards : Seat → List ℕ
+seatCards s = flat (λ h. h .cards) (hands s)
+
+-- What the seat has laid in this round: its stake before the deal; after it the wagers of its hands and its insurance.
+unfoldable pub laid : Seat → ℕ
+laid s = cond (eqb (length (hands s)) 0) (stake s) (sum (wager (stake s)) (hands s) + insurance s)
+
+-- Its prizes in this round: a prize hand totals 21 and never changes again.
+unfoldable pub prizes : Options → Seat → ℕ
+prizes o s = sum (prize o (stake s)) (hands s)
+
+-- What the tray must hold for it at the deal.
+abbrev pub seatCover : Seat → ℕ
+seatCover s = cover (stake s)

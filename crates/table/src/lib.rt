@@ -1,0 +1,33 @@
+// The table: options, tray, nine seats, the bank's hand and the shoe. It holds no enum and no bool, and nothing that can be derived.
+use hands::hand::Hand;
+use options::Options;
+use standing::seat_hand::SeatHands;
+
+// A guest's money: the purse, and on the layout the stake and the insurance, 0 where there is none.
+pub struct Money {
+    pub purse: u64,
+    pub stake: u32,
+    pub insurance: u32,
+}
+
+// A seat: its guest's money and its hands.
+pub struct Seat {
+    pub money: Money,
+    pub hands: SeatHands,
+}
+
+// The shoe: the loaded order and how much of it is drawn; the discards and how many there are.
+pub struct Shoe {
+    pub order: [u8; 416],
+    pub drawn: usize,
+    pub discards: [u8; 416],
+    pub discarded: usize,
+}
+
+pub struct Table {
+    pub options: Options,
+    pub tray: u64,
+    pub seats: [Seat; 9],
+    pub bank: Hand,
+    pub shoe: Shoe,
+}
