@@ -1,10 +1,13 @@
 -- The answer of a list of conditions is n exactly when the condition of n holds and none before it does.
 use mathlib.Core.Path.{_≡_, refl, sym, _∙_, ap}
-use mathlib.Core.Bool.{Bool, true, false, cond, _||_}
+use mathlib.Core.Bool.{Bool, true, false, cond, _||_, and-eq-true-iff}
 use mathlib.Core.List.{List, [], _∷_, _++_}
-use Prim.Native.Nat.{ℕ, _<_}
+use Prim.Native.Nat.{ℕ, zero, suc, _<_}
 use native.Mathlib.Omega.{arith}
-use Rattle.lists.specs.Tests.{any}
+use lib.Dec.{ltb}
+use lib.ListN.{getD}
+use borrow.Author.Tests.{ltb-true}
+use Rattle.lists.specs.Tests.{any, all}
 use Rattle.lists.proofs.Tests.{or-eq-false}
 use Rattle.call.specs.Refusal.{Condition, first, holds, FirstAt}
 
@@ -43,3 +46,12 @@ pub accepted-tail : (n : ℕ) (b : Bool) (cs : List Condition) → 0 < n → fir
 unfolding first
 accepted-tail n true cs h e = omega arith
 accepted-tail n false cs h e = e
+
+-- the condition at a place of the list
+pub accepted-at : (cs : List Condition) (k : ℕ) → all (λ c. ltb 0 (c .0)) cs ≡ true → first cs ≡ 0 → getD cs k (0, false) .1 ≡ false
+unfolding all
+accepted-at [] k numbers e = refl
+accepted-at ((n, b) ∷ cs) zero numbers e = accepted-head n b cs (ltb-true 0 n (and-eq-true-iff (ltb 0 n) (all (λ c. ltb 0 (c .0)) cs) .0 numbers .0)) e
+accepted-at ((n, b) ∷ cs) (suc k) numbers e =
+    let (here, later) = and-eq-true-iff (ltb 0 n) (all (λ c. ltb 0 (c .0)) cs) .0 numbers in
+    accepted-at cs k later (accepted-tail n b cs (ltb-true 0 n here) e)

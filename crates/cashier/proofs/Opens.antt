@@ -101,7 +101,7 @@ module _ (o : Options) (order : List ℕ) (range : inRange o ≡ true) (valid : 
       }
 
 -- the table of an accepted opening
-accepted-table : (o : Options) (order : List ℕ) → openNumber o order ≡ 0 → opened o order ≡ openTable o order
+pub accepted-table : (o : Options) (order : List ℕ) → openNumber o order ≡ 0 → opened o order ≡ openTable o order
 unfolding opened
 accepted-table o order e = simp (eq-eqb (openNumber o order) 0 e)
 

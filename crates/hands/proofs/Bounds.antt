@@ -1,5 +1,5 @@
 -- How number of cards, low sum and total of a hand bound one another, and the room for one card more.
-use mathlib.Core.Path.{_≡_, refl}
+use mathlib.Core.Path.{_≡_, refl, _∙_}
 use mathlib.Core.Bool.{Bool, true, false, cond, _&&_, or-true}
 use mathlib.Core.List.{List, [], _∷_, _++_}
 use Prim.Native.Nat.{ℕ, _+_, _*_, _≤_, _<_}
@@ -7,7 +7,7 @@ use native.Mathlib.Decide.{decLe}
 use native.Mathlib.Numerals.{add-one}
 use native.Mathlib.Omega.{arith}
 use lib.Dec.{leb}
-use lib.ListN.{length, length-append}
+use lib.ListN.{length, length-append, length-set}
 use lib.Seq.{take-suc-set}
 use borrow.Author.Tests.{lt-ltb, le-ltb, le-leb, ltb-true}
 use Rattle.lists.proofs.Sums.{sum-most, sum-least, sum-least-none, sum-snoc}
@@ -94,3 +94,11 @@ room-for-bank cards draws = omega (arith, low-sum-least cards, low-le-total card
 pub with-card-cards : (h : Hand) (card : ℕ) → length (h .cards) ≡ 20 → h .count < 20 → cardsOf (withCard h card) ≡ cardsOf h ++ (card ∷ [])
 unfolding withCard
 with-card-cards h card full room = simp (lt-ltb (h .count) 20 room) (rw (add-one, take-suc-set (h .cards) (h .count) card (omega arith)))
+
+pub with-card-count : (h : Hand) (card : ℕ) → h .count < 20 → withCard h card .count ≡ h .count + 1
+unfolding withCard
+with-card-count h card room = simp (lt-ltb (h .count) 20 room)
+
+pub with-card-full : (h : Hand) (card : ℕ) → length (h .cards) ≡ 20 → h .count < 20 → length (withCard h card .cards) ≡ 20
+unfolding withCard
+with-card-full h card full room = simp (lt-ltb (h .count) 20 room) (length-set (h .cards) (h .count) card ∙ full)

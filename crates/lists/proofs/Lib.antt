@@ -6,3 +6,4 @@ pub mod Picks
 pub mod Below
 pub mod Places
 pub mod Differences
+pub mod Inserts

@@ -96,6 +96,14 @@ module _ {A : Type 0} where
   any-at f (x ∷ xs) zero d h t = ap (λ (b : Bool). b || any f xs) t
   any-at f (x ∷ xs) (suc i) d h t = ap (λ (b : Bool). f x || b) (any-at f xs i d (le-of-suc-le-suc h) t) ∙ or-true (f x)
 
+  -- where none passes, the one at i does not
+  pub any-not-at : (f : A → Bool) (xs : List A) (i : ℕ) (d : A) → i < length xs → any f xs ≡ false → f (getD xs i d) ≡ false
+  any-not-at f xs i d h none = go (f (getD xs i d)) refl
+    where
+      go : (b : Bool) → f (getD xs i d) ≡ b → b ≡ false
+      go true e = absurd (true≢false (sym (any-at f xs i d h e) ∙ none))
+      go false e = refl
+
   -- one element changed for another that tests the same
   pub any-set : (f : A → Bool) (xs : List A) (i : ℕ) (a d : A) → f a ≡ f (getD xs i d) → any f (set xs i a) ≡ any f xs
   unfolding any
@@ -136,3 +144,14 @@ module _ {A : Type 0} where
       go : (b : Bool) → ltb (firstPlace f xs) (length xs) ≡ any f xs → ltb (cond b 0 (suc (firstPlace f xs))) (suc (length xs)) ≡ b || any f xs
       go true e = lt-ltb 0 (suc (length xs)) (omega arith)
       go false e = leb·suc-suc (suc (firstPlace f xs)) (length xs) ∙ e
+
+  -- and what it names passes
+  pub first-passes : (f : A → Bool) (xs : List A) (d : A) → firstPlace f xs < length xs → f (getD xs (firstPlace f xs) d) ≡ true
+  unfolding firstPlace
+  first-passes f [] d h = absurd (not-suc-le-zero h)
+  first-passes f (x ∷ xs) d h = go (f x) refl h (first-passes f xs d)
+    where
+      go : (b : Bool) → f x ≡ b → cond b 0 (suc (firstPlace f xs)) < suc (length xs) → (firstPlace f xs < length xs → f (getD xs (firstPlace f xs) d) ≡ true)
+          → f (getD (x ∷ xs) (cond b 0 (suc (firstPlace f xs))) d) ≡ true
+      go true e k rec = e
+      go false e k rec = rec (le-of-suc-le-suc k)

@@ -1,0 +1,2 @@
+-- Laws about prize hands that the layers above cite.
+pub mod PrizeTotal

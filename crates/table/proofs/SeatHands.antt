@@ -1,0 +1,87 @@
+-- A seat's hands, and the seat with another hand in a place or with two hands for one: its views and sums.
+use mathlib.Core.Path.{_≡_, _∙_, ap}
+use mathlib.Core.List.{map}
+use Prim.Native.Nat.{ℕ, _+_, _≤_, _<_}
+use native.Mathlib.Numerals.{add-one}
+use native.Mathlib.Omega.{arith}
+use lib.ListN.{length, take, getD, set, length-set}
+use lib.Seq.{take-set-lt, take-take, length-take-le, getD-take}
+use borrow.Author.Tests.{ne-eqb}
+use Rattle.lists.specs.Sum.{sum}
+use Rattle.lists.proofs.Sums.{sum-set, sum-flat}
+use Rattle.lists.proofs.Places.{map-set, holds-set}
+use Rattle.lists.proofs.Inserts.{two-for, take-two-for, length-two-for, sum-two-for, holds-two-for, map-two-for}
+use Rattle.standing.specs.declared.seat_hand.SeatHand.{SeatHand}
+use Rattle.standing.specs.SeatHand.{Played, playedOf}
+use Rattle.standing.proofs.Places.{many-hands, hand-at}
+use Rattle.payment.specs.Wager.{wager}
+use Rattle.table.specs.declared.Money.{Money}
+use Rattle.table.specs.declared.Seat.{Seat}
+use Rattle.table.specs.Seat.{makeSeat, noPlace, stake, insurance, hands, seatCards, laid}
+use Rattle.table.specs.Shape.{ShapedSeat}
+use Rattle.table.specs.Sound.{SoundHand}
+
+-- the sums of a seat over its hands, once it has one
+pub laid-playing : (s : Seat) → ShapedSeat s → 0 < s .hands .many → laid s ≡ sum (wager (stake s)) (hands s) + insurance s
+unfolding laid
+laid-playing s shaped some = simp (ne-eqb (length (hands s)) 0 (λ none. omega (arith, many-hands (s .hands) (shaped .four-places))))
+
+pub seat-cards : (w : ℕ → ℕ) (s : Seat) → sum w (seatCards s) ≡ sum (λ h. sum w (h .cards)) (hands s)
+seat-cards w s = sum-flat w (λ h. h .cards) (hands s)
+
+-- the seat with another hand at p, and with two hands for the one there
+abbrev pub with-hand : Seat → Money → ℕ → SeatHand → Seat
+with-hand s m p h = makeSeat m (record { places = set (s .hands .places) p h; many = s .hands .many })
+
+abbrev pub with-two : Seat → Money → ℕ → SeatHand → SeatHand → Seat
+with-two s m p a b = makeSeat m (record { places = take 4 (two-for (s .hands .places) p a b); many = s .hands .many + 1 })
+
+module _ (s : Seat) (p : ℕ) (shaped : ShapedSeat s) (few : s .hands .many ≤ 4) (here : p < s .hands .many) where
+  pub how-many : length (hands s) ≡ s .hands .many
+  how-many = omega (arith, many-hands (s .hands) (shaped .four-places))
+
+  pub hand-is : getD (hands s) p (playedOf noPlace) ≡ playedOf (getD (s .hands .places) p noPlace)
+  hand-is = hand-at (s .hands) p noPlace here
+
+  module _ (m : Money) (h : SeatHand) where
+    pub hands-with : hands (with-hand s m p h) ≡ set (hands s) p (playedOf h)
+    hands-with = ap (map playedOf) (take-set-lt (s .hands .many) (s .hands .places) p h here) ∙ map-set playedOf (take (s .hands .many) (s .hands .places)) p h
+
+    pub shaped-with : length (h .hand .cards) ≡ 20 → ShapedSeat (with-hand s m p h)
+    shaped-with full =
+        record {
+          four-places = length-set (s .hands .places) p h ∙ shaped .four-places;
+          twenty-cards = λ q l. holds-set (λ n x. length (x .hand .cards) ≡ 20) (s .hands .places) p q h noPlace (omega (arith, shaped .four-places)) full (shaped .twenty-cards q l);
+        }
+
+    pub each-with : ((q : ℕ) → q < s .hands .many → SoundHand (getD (s .hands .places) q noPlace)) → SoundHand h → (q : ℕ) → q < s .hands .many
+        → SoundHand (getD (set (s .hands .places) p h) q noPlace)
+    each-with each new q l = holds-set (λ n x. SoundHand x) (s .hands .places) p q h noPlace (omega (arith, shaped .four-places)) new (each q l)
+
+    pub sum-with : (f : Played → ℕ) → sum f (hands (with-hand s m p h)) + f (playedOf (getD (s .hands .places) p noPlace)) ≡ sum f (hands s) + f (playedOf h)
+    sum-with f = rw (hands-with, ← hand-is) (sum-set f (hands s) p (playedOf h) (playedOf noPlace) (omega (arith, how-many)))
+
+  module _ (m : Money) (a b : SeatHand) where
+    pub hands-two : s .hands .many < 4 → hands (with-two s m p a b) ≡ two-for (hands s) p (playedOf a) (playedOf b)
+    hands-two room =
+        ap (map playedOf) (take-take (s .hands .many + 1) 4 (two-for (s .hands .places) p a b) (omega arith))
+        ∙ rw add-one (ap (map playedOf) (take-two-for (s .hands .places) p (s .hands .many) a b here))
+        ∙ map-two-for playedOf (take (s .hands .many) (s .hands .places)) p a b
+
+    pub shaped-two : length (a .hand .cards) ≡ 20 → length (b .hand .cards) ≡ 20 → ShapedSeat (with-two s m p a b)
+    shaped-two full-a full-b =
+        record {
+          four-places = length-take-le 4 (two-for (s .hands .places) p a b) (omega (arith, length-two-for (s .hands .places) p a b (omega (arith, shaped .four-places)), shaped .four-places));
+          twenty-cards = λ q l.
+              rw (getD-take 4 (two-for (s .hands .places) p a b) q noPlace l)
+              (holds-two-for (λ x. length (x .hand .cards) ≡ 20) (s .hands .places) p 4 a b noPlace (omega (arith, shaped .four-places)) (omega arith) full-a full-b (shaped .twenty-cards) q (omega arith));
+        }
+
+    pub each-two : s .hands .many < 4 → ((q : ℕ) → q < s .hands .many → SoundHand (getD (s .hands .places) q noPlace)) → SoundHand a → SoundHand b → (q : ℕ) → q < s .hands .many + 1
+        → SoundHand (getD (take 4 (two-for (s .hands .places) p a b)) q noPlace)
+    each-two room each new-a new-b q l =
+        rw (getD-take 4 (two-for (s .hands .places) p a b) q noPlace (omega arith))
+        (holds-two-for SoundHand (s .hands .places) p (s .hands .many) a b noPlace (omega (arith, shaped .four-places)) here new-a new-b each q (omega arith))
+
+    pub sum-two : s .hands .many < 4 → (f : Played → ℕ) → sum f (hands (with-two s m p a b)) + f (playedOf (getD (s .hands .places) p noPlace)) ≡ sum f (hands s) + f (playedOf a) + f (playedOf b)
+    sum-two room f = rw (hands-two room, ← hand-is) (sum-two-for f (hands s) p (playedOf a) (playedOf b) (playedOf noPlace) (omega (arith, how-many)))
