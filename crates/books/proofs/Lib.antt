@@ -3,3 +3,4 @@ pub mod Replay
 pub mod Claims
 pub mod Steps
 pub mod Theorem
+pub mod Keeps

@@ -1,4 +1,4 @@
--- Every accepted call keeps a table good, one line for each of the seventeen, and no call changes the options.
+-- Every accepted call keeps a table good, and any sound table sound, a line for each of the seventeen; no call changes the options.
 use mathlib.Core.Path.{_≡_, refl}
 use mathlib.Core.List.{List, _∷_}
 use Prim.Native.Nat.{ℕ}
@@ -6,6 +6,8 @@ use Rattle.call.specs.declared.Call.{Call}
 use Rattle.call.specs.declared.Call.the-variants.{Fill, Credit, Buy, Cash, Stake, Deal, Insure, Stand, Draw, Double, Split, Surrender, Even, Five, Close, Void, Load}
 use Rattle.call.specs.Refusal.{first}
 use Rattle.table.specs.declared.Table.{Table}
+use Rattle.table.specs.Shape.{Shaped}
+use Rattle.table.specs.Sound.{Sound}
 use Rattle.history.specs.Entry.{Entry, entry}
 use Rattle.agreement.specs.Agrees.{Good}
 use Rattle.cashier.specs.Fill.{fillEffect}
@@ -14,24 +16,25 @@ use Rattle.cashier.specs.Buy.{buyEffect}
 use Rattle.cashier.specs.Cash.{cashEffect}
 use Rattle.cashier.specs.Load.{loadEffect}
 use Rattle.cashier.specs.Stake.{stakeEffect}
-use Rattle.cashier.proofs.Tray.{fill-good, credit-good}
-use Rattle.cashier.proofs.Loads.{load-good}
-use Rattle.cashier.proofs.Purses.{buy-good, cash-good, stake-good}
+use Rattle.cashier.proofs.Tray.{fill-kept, fill-good, credit-kept, credit-good}
+use Rattle.cashier.proofs.Loads.{load-kept, load-good}
+use Rattle.cashier.proofs.Purses.{buy-kept, buy-good, cash-kept, cash-good, stake-kept, stake-good}
 use Rattle.dealing.specs.Deal.{dealEffect}
 use Rattle.dealing.specs.Void.{voidEffect}
-use Rattle.dealing.proofs.Deal.{deal-good}
-use Rattle.dealing.proofs.Void.{void-good}
+use Rattle.dealing.proofs.Deal.{deal-kept, deal-good}
+use Rattle.dealing.proofs.Void.{void-kept, void-good}
 use Rattle.decisions.specs.Insure.{insureEffect}
 use Rattle.decisions.specs.Surrender.{surrenderEffect}
 use Rattle.decisions.specs.Turn.{endEffect}
 use Rattle.decisions.specs.Card.{cardEffect}
 use Rattle.decisions.specs.Split.{splitEffect}
-use Rattle.decisions.proofs.InsureGood.{insure-good}
-use Rattle.decisions.proofs.EndGood.{stand-good, even-good, five-good, surrender-good}
-use Rattle.decisions.proofs.CardGood.{draw-good, double-good}
-use Rattle.decisions.proofs.SplitGood.{split-good}
+use Rattle.decisions.proofs.OneCall.{Decision, decision-kept, decision-good}
+use Rattle.decisions.proofs.Insuring.{insure-decides}
+use Rattle.decisions.proofs.Ending.{stand-decides, even-decides, five-decides, surrender-decides}
+use Rattle.decisions.proofs.Drawing.{draw-decides, double-decides}
+use Rattle.decisions.proofs.Splitting.{split-decides}
 use Rattle.settling.specs.Close.{closeEffect}
-use Rattle.settling.proofs.Closes.{close-good}
+use Rattle.settling.proofs.Closes.{close-kept, close-good}
 use Rattle.engine.specs.Step.{conditions, effect}
 
 pub step-good : (opening : List ℕ) (es : List Entry) (t : Table) (c : Call) (order : List ℕ) → Good opening es t → first (conditions t c order) ≡ 0
@@ -42,17 +45,37 @@ step-good opening es t (Buy at n) order g e = buy-good opening es t at n order g
 step-good opening es t (Cash at n) order g e = cash-good opening es t at n order g e
 step-good opening es t (Stake at n) order g e = stake-good opening es t at n order g e
 step-good opening es t Deal order g e = deal-good opening es t order g e
-step-good opening es t (Insure at n) order g e = insure-good opening es t at n order g e
-step-good opening es t (Stand at) order g e = stand-good opening es t at order g e
-step-good opening es t (Draw at) order g e = draw-good opening es t at order g e
-step-good opening es t (Double at) order g e = double-good opening es t at order g e
-step-good opening es t (Split at) order g e = split-good opening es t at order g e
-step-good opening es t (Surrender at) order g e = surrender-good opening es t at order g e
-step-good opening es t (Even at) order g e = even-good opening es t at order g e
-step-good opening es t (Five at) order g e = five-good opening es t at order g e
+step-good opening es t (Insure at n) order g e = decision-good t _ _ (insure-decides t at n order (g .shaped) (g .sound) e) opening es g
+step-good opening es t (Stand at) order g e = decision-good t _ _ (stand-decides t at order (g .shaped) (g .sound) e) opening es g
+step-good opening es t (Draw at) order g e = decision-good t _ _ (draw-decides t at order (g .shaped) (g .sound) e) opening es g
+step-good opening es t (Double at) order g e = decision-good t _ _ (double-decides t at order (g .shaped) (g .sound) e) opening es g
+step-good opening es t (Split at) order g e = decision-good t _ _ (split-decides t at order (g .shaped) (g .sound) e) opening es g
+step-good opening es t (Surrender at) order g e = decision-good t _ _ (surrender-decides t at order (g .shaped) (g .sound) e) opening es g
+step-good opening es t (Even at) order g e = decision-good t _ _ (even-decides t at order (g .shaped) (g .sound) e) opening es g
+step-good opening es t (Five at) order g e = decision-good t _ _ (five-decides t at order (g .shaped) (g .sound) e) opening es g
 step-good opening es t Close order g e = close-good opening es t order g e
 step-good opening es t Void order g e = void-good opening es t order g e
 step-good opening es t Load order g e = load-good opening es t order g e
+
+-- on any sound table, reached or not
+pub step-kept : (t : Table) (c : Call) (order : List ℕ) → Shaped t → Sound t → first (conditions t c order) ≡ 0 → Shaped (effect t c order) × Sound (effect t c order)
+step-kept t (Fill n) order shaped sound e = fill-kept t n shaped sound e
+step-kept t (Credit n) order shaped sound e = credit-kept t n shaped sound e
+step-kept t (Buy at n) order shaped sound e = buy-kept t (at .seat) n shaped sound e
+step-kept t (Cash at n) order shaped sound e = cash-kept t (at .seat) n shaped sound e
+step-kept t (Stake at n) order shaped sound e = stake-kept t (at .seat) n shaped sound e
+step-kept t Deal order shaped sound e = deal-kept t shaped sound e
+step-kept t (Insure at n) order shaped sound e = decision-kept t _ _ (insure-decides t at n order shaped sound e) shaped sound
+step-kept t (Stand at) order shaped sound e = decision-kept t _ _ (stand-decides t at order shaped sound e) shaped sound
+step-kept t (Draw at) order shaped sound e = decision-kept t _ _ (draw-decides t at order shaped sound e) shaped sound
+step-kept t (Double at) order shaped sound e = decision-kept t _ _ (double-decides t at order shaped sound e) shaped sound
+step-kept t (Split at) order shaped sound e = decision-kept t _ _ (split-decides t at order shaped sound e) shaped sound
+step-kept t (Surrender at) order shaped sound e = decision-kept t _ _ (surrender-decides t at order shaped sound e) shaped sound
+step-kept t (Even at) order shaped sound e = decision-kept t _ _ (even-decides t at order shaped sound e) shaped sound
+step-kept t (Five at) order shaped sound e = decision-kept t _ _ (five-decides t at order shaped sound e) shaped sound
+step-kept t Close order shaped sound e = close-kept t shaped sound e
+step-kept t Void order shaped sound e = void-kept t shaped sound
+step-kept t Load order shaped sound e = load-kept t order shaped sound e
 
 pub step-options : (t : Table) (c : Call) (order : List ℕ) → effect t c order .options ≡ t .options
 unfolding fillEffect creditEffect buyEffect cashEffect stakeEffect dealEffect insureEffect endEffect cardEffect splitEffect surrenderEffect closeEffect voidEffect loadEffect

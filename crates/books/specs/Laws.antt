@@ -8,12 +8,17 @@ use Rattle.table.specs.declared.Table.{Table}
 use Rattle.table.specs.Shape.{Shaped}
 use Rattle.table.specs.Broken.{broken}
 use Rattle.history.specs.Entry.{Entry}
+use Rattle.engine.specs.Step.{number, effect}
 use Rattle.engine.specs.Run.{run, accepted}
 
 -- A table value whose arrays have their lengths and that is not broken: reached by calls or not.
 pub record Whole (t : Table) : Type 0 where
   pub shaped : Shaped t
   pub sound : broken t ≡ false
+
+-- An accepted call leaves such a table such a table.
+abbrev pub Keeps : Table → Call → List ℕ → Type 0
+Keeps t c order = Whole t → number t c order ≡ 0 → Whole (effect t c order)
 
 -- Playing only the accepted calls of a run, in their order, gives the same table, and all of them are accepted.
 pub record Replayed (t : Table) (calls : List Entry) : Type 0 where

@@ -6,7 +6,7 @@ use Prim.Native.Nat.{ℕ, _+_, _-_, _*_, _≤_, _<_}
 use native.Mathlib.Decide.{decLe}
 use native.Mathlib.Omega.{arith}
 use lib.Dec.{eqb, ltb}
-use lib.ListN.{length, take, drop, replicate, length-append, length-replicate}
+use lib.ListN.{length, getD, take, drop, replicate, length-append, length-replicate}
 use lib.Seq.{take-at}
 use borrow.Author.Tests.{eqb-true, ltb-false, not-false}
 use Rattle.lists.specs.Sum.{sum, isIt}
@@ -16,14 +16,13 @@ use Rattle.lists.specs.Flat.{flat}
 use Rattle.lists.proofs.Sums.{sum-none, sum-ones}
 use Rattle.call.specs.declared.Call.the-variants.{Load}
 use Rattle.call.specs.Refusal.{first}
-use Rattle.call.proofs.Refusals.{accepted-head, accepted-tail}
+use Rattle.call.proofs.Refusals.{accepted-at}
 use Rattle.table.specs.declared.Seat.{Seat}
 use Rattle.table.specs.declared.Table.{Table}
 use Rattle.table.specs.Seat.{noSeat, seatCards}
 use Rattle.table.specs.Shoe.{validOrder, newShoe}
 use Rattle.table.specs.Table.{withShoe, seatAt, isDealt, handCards, bankCards, tableOrder}
 use Rattle.table.specs.Faces.{outCards}
-use Rattle.table.specs.Broken.{broken}
 use Rattle.table.specs.Shape.{Shaped}
 use Rattle.table.specs.Sound.{Sound}
 use Rattle.table.proofs.Facts.{decks-416}
@@ -103,12 +102,10 @@ load-shaped t order shaped s v =
     }
 
 load-may : (t : Table) (order : List ℕ) → first (loadConditions t order) ≡ 0 → (validOrder (t .options .decks) order ≡ true) × (isDealt t ≡ false)
-unfolding loadConditions
+unfolding loadConditions all
 load-may t order e =
-    let valid = validOrder (t .options .decks) order in
-    let c2 = accepted-tail 1 (broken t) _ (omega arith) e in
-    let c3 = accepted-tail 3 (not valid) _ (omega arith) c2 in
-    (not-false valid (accepted-head 3 (not valid) _ (omega arith) c2), accepted-head 4 (isDealt t) _ (omega arith) c3)
+    let at : (k : ℕ) → getD (loadConditions t order) k (0, false) .1 ≡ false = λ k. accepted-at (loadConditions t order) k refl e in
+    (not-false (validOrder (t .options .decks) order) (at 1), at 2)
 
 pub load-kept : (t : Table) (order : List ℕ) → Shaped t → Sound t → first (loadConditions t order) ≡ 0 → Shaped (loadEffect t order) × Sound (loadEffect t order)
 unfolding loadEffect

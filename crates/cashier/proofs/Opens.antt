@@ -1,6 +1,6 @@
 -- An accepted opening gives a table that is good: nothing is on it but the loaded order, and the history has no call yet.
 use mathlib.Core.Path.{_≡_, refl, sym, _∙_, ap, subst}
-use mathlib.Core.Bool.{true, not, true≢false}
+use mathlib.Core.Bool.{true, false, true≢false}
 use mathlib.Core.List.{List, []}
 use Prim.Native.Nat.{ℕ, _+_, _≤_, _<_}
 use native.Mathlib.Decide.{decLe}
@@ -8,9 +8,10 @@ use native.Mathlib.Omega.{arith}
 use lib.ListN.{length, getD, replicate, length-replicate, getD-replicate, List·getD-eq-default}
 use borrow.Author.Tests.{eq-eqb, not-false}
 use Rattle.lists.specs.Sum.{sum}
+use Rattle.lists.specs.Tests.{all}
 use Rattle.lists.specs.Flat.{flat}
 use Rattle.call.specs.Refusal.{first}
-use Rattle.call.proofs.Refusals.{accepted-head, accepted-tail}
+use Rattle.call.proofs.Refusals.{accepted-at}
 use Rattle.cards.specs.Card.{isAce}
 use Rattle.options.specs.declared.Options.{Options}
 use Rattle.options.specs.Ranges.{inRange}
@@ -106,10 +107,10 @@ unfolding opened
 accepted-table o order e = simp (eq-eqb (openNumber o order) 0 e)
 
 pub open-good : (o : Options) (order : List ℕ) → openNumber o order ≡ 0 → Good order [] (opened o order)
-unfolding openConditions openNumber
+unfolding openConditions openNumber all
 open-good o order e =
-    let c2 = accepted-tail 2 (not (inRange o)) _ (omega arith) e in
-    let range : inRange o ≡ true = not-false (inRange o) (accepted-head 2 (not (inRange o)) _ (omega arith) e) in
-    let valid : validOrder (o .decks) order ≡ true = not-false (validOrder (o .decks) order) (accepted-head 3 (not (validOrder (o .decks) order)) _ (omega arith) c2) in
+    let at : (k : ℕ) → getD (openConditions o order) k (0, false) .1 ≡ false = λ k. accepted-at (openConditions o order) k refl e in
+    let range = not-false (inRange o) (at 0) in
+    let valid = not-false (validOrder (o .decks) order) (at 1) in
     subst (Good order []) (sym (accepted-table o order e))
     (record { shaped = open-shaped o order range valid; sound = open-sound o order range valid; agrees = open-agrees o order range valid })

@@ -16,7 +16,7 @@ use Rattle.lists.proofs.Tests.{all-at}
 use Rattle.call.specs.declared.At.{At}
 use Rattle.call.specs.declared.Call.the-variants.{Buy, Cash, Stake}
 use Rattle.call.specs.Refusal.{first}
-use Rattle.call.proofs.Refusals.{accepted-head, accepted-tail}
+use Rattle.call.proofs.Refusals.{accepted-at}
 use Rattle.cards.specs.Card.{isAce}
 use Rattle.options.specs.declared.Options.{Options}
 use Rattle.table.specs.declared.Seat.{Seat}
@@ -175,18 +175,15 @@ module _ (opening : List ℕ) (es : List Entry) (t : Table) (e : Entry) (j p S c
       })
 
 buy-between : (t : Table) (j n : ℕ) → Sound t → first (buyConditions t j n) ≡ 0 → Between t j (purse (seatAt t j) + n) (stake (seatAt t j)) n 0
-unfolding buyConditions
+unfolding buyConditions all
 buy-between t j n sound e =
-    let c1 = accepted-tail 1 (broken t) _ (omega arith) e in
-    let c2 = accepted-tail 4 (isDealt t) _ (omega arith) c1 in
-    let c3 = accepted-tail 8 (noSuchSeat t j) _ (omega arith) c2 in
-    let c4 = accepted-tail 14 (eqb n 0) _ (omega arith) c3 in
-    let within = leb-false (t .options .seats) j (accepted-head 8 (noSuchSeat t j) _ (omega arith) c2) in
-    let most = ltb-false limit (allMoney t + n) (accepted-head 14 (pastLimit t n) _ (omega arith) c4) in
+    let at : (k : ℕ) → getD (buyConditions t j n) k (0, false) .1 ≡ false = λ k. accepted-at (buyConditions t j n) k refl e in
+    let within = leb-false (t .options .seats) j (at 2) in
+    let most = ltb-false limit (allMoney t + n) (at 4) in
     let most-seats = sound-options t sound .seats-most in
     record {
       within = within;
-      none = accepted-head 4 (isDealt t) _ (omega arith) c1;
+      none = at 1;
       fits = sound .seats j (omega arith) .stake-fits;
       pays = omega arith;
       in-limit = omega arith;
@@ -214,19 +211,16 @@ buy-good opening es t at n order g e =
     })
 
 cash-between : (t : Table) (j n : ℕ) → Sound t → first (cashConditions t j n) ≡ 0 → Between t j (purse (seatAt t j) - n) (stake (seatAt t j)) 0 n
-unfolding cashConditions
+unfolding cashConditions all
 cash-between t j n sound e =
-    let c1 = accepted-tail 1 (broken t) _ (omega arith) e in
-    let c2 = accepted-tail 4 (isDealt t) _ (omega arith) c1 in
-    let c3 = accepted-tail 8 (noSuchSeat t j) _ (omega arith) c2 in
-    let c4 = accepted-tail 14 (eqb n 0) _ (omega arith) c3 in
-    let within = leb-false (t .options .seats) j (accepted-head 8 (noSuchSeat t j) _ (omega arith) c2) in
-    let enough = ltb-false (purse (seatAt t j)) n (accepted-head 15 (ltb (purse (seatAt t j)) n) _ (omega arith) c4) in
+    let at : (k : ℕ) → getD (cashConditions t j n) k (0, false) .1 ≡ false = λ k. accepted-at (cashConditions t j n) k refl e in
+    let within = leb-false (t .options .seats) j (at 2) in
+    let enough = ltb-false (purse (seatAt t j)) n (at 4) in
     let most-seats = sound-options t sound .seats-most in
     let most = sound .money in
     record {
       within = within;
-      none = accepted-head 4 (isDealt t) _ (omega arith) c1;
+      none = at 1;
       fits = sound .seats j (omega arith) .stake-fits;
       pays = omega arith;
       in-limit = omega arith;
@@ -254,30 +248,21 @@ cash-good opening es t at n order g e =
     })
 
 stake-none : (t : Table) (j n : ℕ) → first (stakeConditions t j n) ≡ 0 → stake (seatAt t j) ≤ 0
-unfolding stakeConditions
-stake-none t j n e =
-    let c1 = accepted-tail 1 (broken t) _ (omega arith) e in
-    let c2 = accepted-tail 4 (isDealt t) _ (omega arith) c1 in
-    let c3 = accepted-tail 8 (noSuchSeat t j) _ (omega arith) c2 in
-    ltb-false 0 (stake (seatAt t j)) (accepted-head 9 (isStaked (seatAt t j)) _ (omega arith) c3)
+unfolding stakeConditions all
+stake-none t j n e = ltb-false 0 (stake (seatAt t j)) (accepted-at (stakeConditions t j n) 3 refl e)
 
 stake-between : (t : Table) (j n : ℕ) → Sound t → first (stakeConditions t j n) ≡ 0 → Between t j (purse (seatAt t j) - n) (n) 0 0
-unfolding stakeConditions
+unfolding stakeConditions all
 stake-between t j n sound e =
-    let c1 = accepted-tail 1 (broken t) _ (omega arith) e in
-    let c2 = accepted-tail 4 (isDealt t) _ (omega arith) c1 in
-    let c3 = accepted-tail 8 (noSuchSeat t j) _ (omega arith) c2 in
-    let c4 = accepted-tail 9 (isStaked (seatAt t j)) _ (omega arith) c3 in
-    let c5 = accepted-tail 14 (eqb n 0) _ (omega arith) c4 in
-    let c6 = accepted-tail 14 (not (stakePermitted (t .options) n)) _ (omega arith) c5 in
-    let within = leb-false (t .options .seats) j (accepted-head 8 (noSuchSeat t j) _ (omega arith) c2) in
+    let at : (k : ℕ) → getD (stakeConditions t j n) k (0, false) .1 ≡ false = λ k. accepted-at (stakeConditions t j n) k refl e in
+    let within = leb-false (t .options .seats) j (at 2) in
     let unstaked = stake-none t j n e in
-    let permitted = not-false (stakePermitted (t .options) n) (accepted-head 14 (not (stakePermitted (t .options) n)) _ (omega arith) c5) in
-    let enough = ltb-false (purse (seatAt t j)) n (accepted-head 15 (ltb (purse (seatAt t j)) n) _ (omega arith) c6) in
+    let permitted = not-false (stakePermitted (t .options) n) (at 5) in
+    let enough = ltb-false (purse (seatAt t j)) n (at 6) in
     let most = sound .money in
     record {
       within = within;
-      none = accepted-head 4 (isDealt t) _ (omega arith) c1;
+      none = at 1;
       fits = λ h. permitted;
       pays = omega arith;
       in-limit = omega arith;

@@ -4,22 +4,20 @@ use mathlib.Core.Bool.{true, false, cond, _||_, true≢false}
 use mathlib.Core.List.{List, _∷_}
 use Prim.Native.Nat.{ℕ, _+_, _-_, _≤_}
 use native.Mathlib.Omega.{arith}
-use lib.Dec.{eqb, ltb}
+use lib.ListN.{getD}
 use borrow.Author.Tests.{ltb-false}
 use Rattle.lists.specs.Tests.{all}
 use Rattle.call.specs.declared.Call.the-variants.{Fill, Credit}
 use Rattle.call.specs.Refusal.{first}
-use Rattle.call.proofs.Refusals.{accepted-head, accepted-tail}
+use Rattle.call.proofs.Refusals.{accepted-at}
 use Rattle.table.specs.declared.Table.{Table}
 use Rattle.table.specs.Table.{withTray, seatAt, isDealt}
 use Rattle.table.specs.Money.{limit, allMoney}
 use Rattle.table.specs.Shape.{Shaped}
 use Rattle.table.specs.Sound.{Sound}
-use Rattle.table.specs.Broken.{broken}
 use Rattle.history.specs.Entry.{Entry, entry, isFill, isCredit, isBuy, isCash, isLoad, amountOf}
 use Rattle.agreement.specs.Agrees.{Agrees, Good}
 use Rattle.agreement.proofs.Quiet.{House, house, house-seat, house-cards}
-use Rattle.cashier.specs.Between.{pastLimit}
 use Rattle.cashier.specs.Fill.{fillConditions, fillEffect}
 use Rattle.cashier.specs.Credit.{creditConditions, creditEffect}
 
@@ -58,13 +56,11 @@ tray-agrees opening es t tray e q no-load a money =
     }
 
 pub fill-kept : (t : Table) (n : ℕ) → Shaped t → Sound t → first (fillConditions t n) ≡ 0 → Shaped (fillEffect t n) × Sound (fillEffect t n)
-unfolding fillConditions fillEffect
+unfolding fillConditions fillEffect all
 fill-kept t n shaped sound e =
-    let c2 = accepted-tail 1 (broken t) _ (omega arith) e in
-    let c3 = accepted-tail 4 (isDealt t) _ (omega arith) c2 in
-    let c4 = accepted-tail 14 (eqb n 0) _ (omega arith) c3 in
-    let most = ltb-false limit (allMoney t + n) (accepted-head 14 (pastLimit t n) _ (omega arith) c4) in
-    (tray-shaped t (t .tray + n) shaped, tray-sound t (t .tray + n) sound (accepted-head 4 (isDealt t) _ (omega arith) c2) (omega arith))
+    let at : (k : ℕ) → getD (fillConditions t n) k (0, false) .1 ≡ false = λ k. accepted-at (fillConditions t n) k refl e in
+    let most = ltb-false limit (allMoney t + n) (at 3) in
+    (tray-shaped t (t .tray + n) shaped, tray-sound t (t .tray + n) sound (at 1) (omega arith))
 
 pub fill-good : (opening : List ℕ) (es : List Entry) (t : Table) (n : ℕ) (order : List ℕ) → Good opening es t → first (fillConditions t n) ≡ 0
     → Good opening (entry (Fill n) order ∷ es) (fillEffect t n)
@@ -78,12 +74,10 @@ fill-good opening es t n order g e =
     }
 
 credit-enough : (t : Table) (n : ℕ) → first (creditConditions t n) ≡ 0 → (isDealt t ≡ false) × (n ≤ t .tray)
-unfolding creditConditions
+unfolding creditConditions all
 credit-enough t n e =
-    let c2 = accepted-tail 1 (broken t) _ (omega arith) e in
-    let c3 = accepted-tail 4 (isDealt t) _ (omega arith) c2 in
-    let c4 = accepted-tail 14 (eqb n 0) _ (omega arith) c3 in
-    (accepted-head 4 (isDealt t) _ (omega arith) c2, ltb-false (t .tray) n (accepted-head 16 (ltb (t .tray) n) _ (omega arith) c4))
+    let at : (k : ℕ) → getD (creditConditions t n) k (0, false) .1 ≡ false = λ k. accepted-at (creditConditions t n) k refl e in
+    (at 1, ltb-false (t .tray) n (at 3))
 
 pub credit-kept : (t : Table) (n : ℕ) → Shaped t → Sound t → first (creditConditions t n) ≡ 0 → Shaped (creditEffect t n) × Sound (creditEffect t n)
 unfolding creditEffect

@@ -8,12 +8,13 @@ use native.Mathlib.Omega.{arith}
 use lib.Dec.{ltb, leb, eqb}
 use lib.IntN.{pos}
 use lib.ListN.{getD}
+use Rattle.lists.specs.Tests.{all}
 use lib.Seq.{getD-take, take-all}
 use borrow.Author.Tests.{ltb-false, le-leb, lt-leb, eq-eqb, ne-eqb, not-false}
 use Rattle.lists.proofs.Below.{sum-below-same, sum-below-more}
 use Rattle.call.specs.declared.Call.the-variants.{Deal}
 use Rattle.call.specs.Refusal.{first}
-use Rattle.call.proofs.Refusals.{accepted-head, accepted-tail}
+use Rattle.call.proofs.Refusals.{accepted-at}
 use Rattle.hands.specs.Hand.{withCard}
 use Rattle.options.specs.declared.Options.{Options}
 use Rattle.options.specs.Facts.{InRange}
@@ -39,24 +40,20 @@ use Rattle.agreement.proofs.Purse.{purse-moves}
 use Rattle.agreement.proofs.Quiet.{cond-same}
 use Rattle.dealing.specs.Burn.{firstBurn, laterBurn, burnAtDeal}
 use Rattle.dealing.specs.Deal.{stakedSeats, burnt, dealTakes, dealtSeats, upCard, dealConditions, dealEffect}
-use Rattle.dealing.proofs.ListLaws.{sum-first, sum-before}
+use Rattle.lists.proofs.Parts.{sum-first, sum-before}
 use Rattle.dealing.proofs.DealtSeat.{dealt-hands}
 use Rattle.dealing.proofs.DealSound.{Dealable, firstPlace, secondPlace, stakedBefore, firstOf, secondOf, dealtAt, past, no-hand-yet, staked-nine, dealt-either, laid-after, prizes-after, deal-money, deal-shaped, deal-sound}
 
 -- what the conditions of an accepted deal give
 dealable : (t : Table) → t .shoe .drawn ≤ 52 * t .options .decks → first (dealConditions t) ≡ 0 → Dealable t
-unfolding dealConditions
+unfolding dealConditions all
 dealable t within accepted =
-    let a = accepted-tail 1 (broken t) _ (omega arith) accepted in
-    let b = accepted-tail 4 (isDealt t) _ (omega arith) a in
-    let c = accepted-tail 6 (not (someStaked t)) _ (omega arith) b in
-    let d = accepted-tail 16 (ltb (t .tray) (allCover t)) _ (omega arith) c in
-    let e = accepted-tail 17 (leb (cardsLeft t) (t .options .cut)) _ (omega arith) d in
+    let at : (k : ℕ) → getD (dealConditions t) k (0, false) .1 ≡ false = λ k. accepted-at (dealConditions t) k refl accepted in
     record {
-      not-dealt = accepted-head 4 (isDealt t) _ (omega arith) a;
-      some = not-false _ (accepted-head 6 (not (someStaked t)) _ (omega arith) b);
-      covered = ltb-false _ _ (accepted-head 16 (ltb (t .tray) (allCover t)) _ (omega arith) c);
-      enough = omega (arith, ltb-false (cardsLeft t) (dealTakes t) (accepted-head 17 (ltb (cardsLeft t) (dealTakes t)) _ (omega arith) e));
+      not-dealt = at 1;
+      some = not-false (someStaked t) (at 2);
+      covered = ltb-false (t .tray) (allCover t) (at 3);
+      enough = omega (arith, ltb-false (cardsLeft t) (dealTakes t) (at 5));
     }
 
 -- the burn, as the history says it

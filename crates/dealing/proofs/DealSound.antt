@@ -29,7 +29,7 @@ use Rattle.table.proofs.SeatChange.{sum-out}
 use Rattle.table.proofs.RoundEnd.{discards-more}
 use Rattle.dealing.specs.Pass.{pass, firstCard, secondCard}
 use Rattle.dealing.specs.Deal.{stakedSeats, burnt, dealTakes, dealtSeats, upCard, dealEffect}
-use Rattle.dealing.proofs.ListLaws.{any-map, part-of-take, sum-places, sum-more}
+use Rattle.lists.proofs.Parts.{any-map, part-of-take, sum-places, sum-more}
 use Rattle.dealing.proofs.Pass.{pass-view, pass-length, pass-money, pass-either, pass-staked, pass-cards}
 use Rattle.dealing.proofs.DealtSeat.{dealtSeat, both-cards, first-cards, second-cards, dealt-laid, dealt-prizes, dealt-shaped, dealt-sound}
 

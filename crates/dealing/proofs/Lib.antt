@@ -1,5 +1,4 @@
 -- Deal and void keep a table good: sound, and in agreement with the history.
-pub mod ListLaws
 pub mod Pass
 pub mod DealtSeat
 pub mod DealSound

@@ -2,7 +2,7 @@
 pub mod OneCall
 pub mod Accepted
 pub mod OneHand
-pub mod InsureGood
-pub mod EndGood
-pub mod CardGood
-pub mod SplitGood
+pub mod Insuring
+pub mod Ending
+pub mod Drawing
+pub mod Splitting

@@ -1,5 +1,5 @@
 -- A call of a guest in a dealt round: what it must give for the table to stay good. It lays `more`, wins `won` and draws k cards.
-use mathlib.Core.Path.{_≡_, refl, sym, _∙_, ap}
+use mathlib.Core.Path.{_≡_, refl, sym, _∙_, ap, subst}
 use mathlib.Core.Bool.{true, false, cond, _||_, and-true}
 use mathlib.Core.List.{List, _∷_}
 use Prim.Native.Nat.{ℕ, _+_, _*_, _≤_, _<_}
@@ -25,11 +25,11 @@ use Rattle.table.specs.declared.Table.{Table}
 use Rattle.table.specs.Seat.{purse, stake, insurance, hands, laid, prizes, seatCards}
 use Rattle.table.specs.Shoe.{drawn}
 use Rattle.table.specs.Table.{seatAt, isDealt, up, bankCards, tableShoe, cardsLeft}
-use Rattle.table.specs.Shape.{ShapedSeat}
+use Rattle.table.specs.Shape.{Shaped, ShapedSeat}
 use Rattle.table.specs.Sound.{Sound, SoundSeat, Insured, Playing}
 use Rattle.table.proofs.SeatChange.{changed, SeatChange, change-shaped, change-money, change-sound}
 use Rattle.agreement.specs.Agrees.{SeatAgrees, CardsAgree, Good}
-use Rattle.agreement.proofs.OneSeat.{SeatCall, one-seat}
+use Rattle.agreement.proofs.OneSeat.{SeatCall, one-call}
 use Rattle.agreement.proofs.Purse.{purse-moves}
 use Rattle.decisions.specs.Turn.{turnPlace}
 
@@ -97,7 +97,7 @@ module _ (e : Entry) (j : ℕ) (g : Guest e j) where
         → pos next ≡ purseOf o opening (e ∷ es) j
     purse-after x next p h = purse-moves o opening es j e not-end x next p (simp (not-buy, not-cash) (omega arith))
 
--- a seat with a stake in a dealt round
+-- a round is dealt, and the seat is one of the table's
 pub record Acting (t : Table) (j : ℕ) : Type 0 where
   pub dealt : isDealt t ≡ true
   pub within : j < t .options .seats
@@ -141,13 +141,13 @@ some-drawn : (t : Table) → Sound t → isDealt t ≡ true → 0 < t .shoe .dra
 some-drawn t sound dealt =
     omega (arith, simp length-append at (sound .number), ltb-true 0 (length (bankCards t)) dealt)
 
-module _ (opening : List ℕ) (es : List Entry) (t : Table) (e : Entry) (j tray : ℕ) (s : Seat) (shoe : Shoe) (k more won : ℕ) (good : Good opening es t) (d : Decided t e j tray s shoe k more won) where
+module _ (t : Table) (e : Entry) (j tray : ℕ) (s : Seat) (shoe : Shoe) (k more won : ℕ) (sound : Sound t) (d : Decided t e j tray s shoe k more won) where
   -- place j is one of the nine
   nine : j < 9
-  nine = omega (arith, in-range-facts (t .options) (good .sound .options) .seats-most)
+  nine = omega (arith, in-range-facts (t .options) (sound .options) .seats-most)
 
   was : SoundSeat (t .options) (isDealt t) (isAce (up t)) j (seatAt t j)
-  was = good .sound .seats j nine
+  was = sound .seats j nine
 
   change : SeatChange t j tray s shoe k 0 0
   change =
@@ -165,7 +165,7 @@ module _ (opening : List ℕ) (es : List Entry) (t : Table) (e : Entry) (j tray 
             };
         same-stake = λ dealt. d .same-stake;
         paid = omega arith;
-        in-limit = omega (arith, good .sound .money);
+        in-limit = omega (arith, sound .money);
         prizes-paid = λ dealt. omega arith;
         same-order = d .draws .same-order;
         same-discards = d .draws .same-discards;
@@ -175,6 +175,7 @@ module _ (opening : List ℕ) (es : List Entry) (t : Table) (e : Entry) (j tray 
         cards-moved = d .cards-moved;
       }
 
+module _ (opening : List ℕ) (es : List Entry) (t : Table) (e : Entry) (j tray : ℕ) (s : Seat) (shoe : Shoe) (k more won : ℕ) (good : Good opening es t) (d : Decided t e j tray s shoe k more won) where
   some-card : 0 < t .shoe .drawn
   some-card = some-drawn t (good .sound) (d .acting .dealt)
 
@@ -188,9 +189,9 @@ module _ (opening : List ℕ) (es : List Entry) (t : Table) (e : Entry) (j tray 
   wins-history : prizeOf (t .options) opening es j e ≡ won
   wins-history = simp (← (history .stake-is), ← (history .hands-are)) (d .wins-it (cardsOfHistory (t .options) opening es) (good .agrees .cards))
 
-  hands-history : (c : Cards) → c ≡ cardsOfHistory (t .options) opening es → CardsAgree c t
+  hands-history : (c : Cards) → CardsAgree c t
       → hands s ≡ decide (handsIn (t .options) opening es j) (waitingPlace (t .options) (getD (c .bank) 0 0) (handsIn (t .options) opening es j)) c e
-  hands-history c same agree =
+  hands-history c agree =
       d .hands-are c agree
       ∙ ap (λ (b : List ℕ). decide (hands (seatAt t j)) (waitingPlace (t .options) (getD b 0 0) (hands (seatAt t j))) c e) (agree .bank)
       ∙ ap (λ (hs : List Played). decide hs (waitingPlace (t .options) (getD (c .bank) 0 0) hs) c e) (history .hands-are)
@@ -204,7 +205,7 @@ module _ (opening : List ℕ) (es : List Entry) (t : Table) (e : Entry) (j tray 
             d .insurance-is
             ∙ ap (λ (I : ℕ). cond (isInsure e) (amountOf e) I) (history .insurance-is)
             ∙ sym (insurance-after e j (d .guest) (t .options) opening es);
-        hands-are = hands-history c refl (good .agrees .cards) ∙ sym (hands-after e j (d .guest) (t .options) opening es c refl);
+        hands-are = hands-history c (good .agrees .cards) ∙ sym (hands-after e j (d .guest) (t .options) opening es c refl);
         laid-is =
             let l : laid s ≡ lays j (stakeIn es j) e + laidIn es j = omega (arith, d .laid-grows, history .laid-is, lays-history) in
             l ∙ sym (laid-after e j (d .guest) (t .options) opening es);
@@ -228,13 +229,32 @@ module _ (opening : List ℕ) (es : List Entry) (t : Table) (e : Entry) (j tray 
         more-drawn = d .draws .more-drawn;
         same-fresh = ne-eqb (shoe .drawn) 0 (λ h. omega (arith, some-card)) ∙ sym (ne-eqb (t .shoe .drawn) 0 (λ h. omega (arith, some-card)));
         seat = seat-agrees;
-        money = simp (none-goes e j (d .guest), none-comes e j (d .guest)) (omega (arith, change-money t j tray s shoe k 0 0 (good .shaped) (good .sound) change));
+        money = simp (none-goes e j (d .guest), none-comes e j (d .guest)) (omega (arith, change-money t j tray s shoe k 0 0 (good .shaped) (good .sound) (change t e j tray s shoe k more won (good .sound) d)));
       }
 
-  pub one-call : Good opening (e ∷ es) (changed t j tray s shoe)
-  one-call =
-      record {
-        shaped = change-shaped t j tray s shoe k 0 0 (good .shaped) (good .sound) change;
-        sound = change-sound t j tray s shoe k 0 0 (good .shaped) (good .sound) change;
-        agrees = one-seat opening es t e j tray s shoe k (good .shaped .nine-seats) nine (good .agrees) call;
-      }
+-- what a call decides: from the conditions, on any sound table
+pub record Decision (t : Table) (e : Entry) (after : Table) : Type 0 where
+  pub j : ℕ
+  pub tray : ℕ
+  pub seat : Seat
+  pub shoe : Shoe
+  pub k : ℕ
+  pub more : ℕ
+  pub won : ℕ
+  pub is : after ≡ changed t j tray seat shoe
+  pub decided : Decided t e j tray seat shoe k more won
+
+-- it keeps any sound table sound, and a table that agrees with a history in agreement
+module _ (t : Table) (e : Entry) (after : Table) (d : Decision t e after) where
+  pub decision-kept : Shaped t → Sound t → Shaped after × Sound after
+  decision-kept shaped sound =
+      let moves = change t e (d .j) (d .tray) (d .seat) (d .shoe) (d .k) (d .more) (d .won) sound (d .decided) in
+      subst (λ (x : Table). Shaped x × Sound x) (sym (d .is))
+      (change-shaped t (d .j) (d .tray) (d .seat) (d .shoe) (d .k) 0 0 shaped sound moves, change-sound t (d .j) (d .tray) (d .seat) (d .shoe) (d .k) 0 0 shaped sound moves)
+
+  pub decision-good : (opening : List ℕ) (es : List Entry) → Good opening es t → Good opening (e ∷ es) after
+  decision-good opening es good =
+      subst (Good opening (e ∷ es)) (sym (d .is))
+      (one-call opening es t e (d .j) (d .tray) (d .seat) (d .shoe) (d .k) 0 0 good
+      (change t e (d .j) (d .tray) (d .seat) (d .shoe) (d .k) (d .more) (d .won) (good .sound) (d .decided))
+      (call opening es t e (d .j) (d .tray) (d .seat) (d .shoe) (d .k) (d .more) (d .won) good (d .decided)))

@@ -7,3 +7,4 @@ pub mod Below
 pub mod Places
 pub mod Differences
 pub mod Inserts
+pub mod Parts

@@ -11,17 +11,17 @@ use lib.ListN.{length, getD, take, drop, length-append, length-take, length-drop
 use lib.Seq.{take-add, length-take-le}
 use borrow.Author.Tests.{ltb-true, not-false, ne-eqb}
 use Rattle.lists.specs.Sum.{sum}
+use Rattle.lists.specs.Tests.{all}
 use Rattle.lists.proofs.Sums.{sum-append, sum-plus, sum-at-most}
 use Rattle.lists.proofs.Picks.{cond-most}
 use Rattle.lists.proofs.Differences.{Diff, diff-pos, diff-add}
 use Rattle.call.specs.declared.Call.the-variants.{Close}
 use Rattle.call.specs.Refusal.{first}
-use Rattle.call.proofs.Refusals.{accepted-head, accepted-tail}
+use Rattle.call.proofs.Refusals.{accepted-at}
 use Rattle.cards.specs.Card.{isAce}
 use Rattle.options.specs.declared.Options.{Options}
 use Rattle.standing.specs.declared.bank.Score.{Score}
 use Rattle.standing.specs.Bank.{mustDraw, scoreOf}
-use Rattle.standing.specs.Turn.{someWaits}
 use Rattle.payment.specs.Wager.{wager}
 use Rattle.payment.specs.HandPay.{handPay}
 use Rattle.payment.specs.Insurance.{insurancePay}
@@ -29,9 +29,8 @@ use Rattle.table.specs.declared.Seat.{Seat}
 use Rattle.table.specs.declared.Table.{Table}
 use Rattle.table.specs.Seat.{noSeat, purse, stake, insurance, hands, laid, prizes, seatCover}
 use Rattle.table.specs.Shoe.{drawn, discard, isFresh}
-use Rattle.table.specs.Table.{seatAt, seatsHands, handCards, bankCards, isDealt, up, tableOrder, tableShoe}
+use Rattle.table.specs.Table.{seatAt, handCards, bankCards, isDealt, up, tableOrder, tableShoe}
 use Rattle.table.specs.Money.{layout, allMoney, allPrizes, allCover}
-use Rattle.table.specs.Broken.{broken}
 use Rattle.table.specs.Shape.{Shaped}
 use Rattle.table.specs.Sound.{Sound, SoundSeat, Nothing}
 use Rattle.table.proofs.Facts.{sound-options, decks-416, dealt-drawn, no-hands}
@@ -56,17 +55,17 @@ module _ (t : Table) (shaped : Shaped t) (sound : Sound t) (e : first (closeCond
   abbrev o : Options
   o = t .options
 
+  accepted : (k : ℕ) → getD (closeConditions t) k (0, false) .1 ≡ false
+  unfolding closeConditions all
+  accepted k = accepted-at (closeConditions t) k refl e
+
   dealt : isDealt t ≡ true
   unfolding closeConditions
-  dealt = not-false (isDealt t) (accepted-head 5 (not (isDealt t)) _ (omega arith) (accepted-tail 1 (broken t) _ (omega arith) e))
+  dealt = not-false (isDealt t) (accepted 1)
 
   stands : mustDraw (bankAtClose t) ≡ false
   unfolding closeConditions
-  stands =
-      accepted-head 18 (mustDraw (bankAtClose t)) _ (omega arith)
-      (accepted-tail 7 (someWaits o (up t) (seatsHands t)) _ (omega arith)
-      (accepted-tail 5 (not (isDealt t)) _ (omega arith)
-      (accepted-tail 1 (broken t) _ (omega arith) e)))
+  stands = accepted 3
 
   one-bank : bankCards t ≡ up t ∷ []
   one-bank = list-of-one (bankCards t) (omega (arith, ltb-true 0 (length (bankCards t)) dealt, length-take (t .bank .count) (t .bank .cards), sound .bank))

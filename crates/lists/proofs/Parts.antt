@@ -1,4 +1,4 @@
--- Laws about lists alone: tests over a mapped list, a part of the first elements, and sums by place.
+-- Laws of parts of a list: tests over a mapped list, a part of the first elements, and sums by place.
 use mathlib.Core.Path.{_≡_, refl, sym, _∙_, ap}
 use mathlib.Core.Bool.{Bool, _||_}
 use mathlib.Core.List.{List, [], _∷_, map}

@@ -42,14 +42,14 @@ use Rattle.table.specs.Shape.{Shaped, ShapedSeat}
 use Rattle.table.specs.Sound.{Sound, SoundHand}
 use Rattle.table.proofs.SeatHands.{laid-playing, seat-cards, with-two, how-many, hand-is, hands-two, shaped-two, each-two, sum-two}
 use Rattle.table.proofs.NextCards.{next-two}
-use Rattle.agreement.specs.Agrees.{CardsAgree, Good}
+use Rattle.agreement.specs.Agrees.{CardsAgree}
 use Rattle.decisions.specs.Round.{roundConditions}
 use Rattle.decisions.specs.Turn.{turnConditions, turnPlace, turnHand}
 use Rattle.decisions.specs.Card.{cardAhead}
 use Rattle.decisions.specs.Split.{splitConditions, turnCard, splitHand, splitEffect}
-use Rattle.decisions.proofs.OneCall.{Decided, draws-some, one-call}
+use Rattle.decisions.proofs.OneCall.{Decided, draws-some, Decision}
 use Rattle.decisions.proofs.Accepted.{Waiting, in-turn, still-insured}
-use Rattle.decisions.proofs.CardGood.{next-card}
+use Rattle.decisions.proofs.Drawing.{next-card}
 
 -- the hand of a kept card and a drawn one
 module _ (kept card : ℕ) where
@@ -192,17 +192,17 @@ module _ (t : Table) (at : At) (order : List ℕ) (shaped : Shaped t) (sound : S
         cards-moved = now-cards;
       }
 
-pub split-good : (opening : List ℕ) (es : List Entry) (t : Table) (at : At) (order : List ℕ) → Good opening es t
-    → first (splitConditions t (at .seat)) ≡ 0 → Good opening (entry (Split at) order ∷ es) (splitEffect t (at .seat))
+pub split-decides : (t : Table) (at : At) (order : List ℕ) → Shaped t → Sound t → first (splitConditions t (at .seat)) ≡ 0
+    → Decision t (entry (Split at) order) (splitEffect t (at .seat))
 unfolding splitConditions splitEffect turnConditions roundConditions isPair all
-split-good opening es t at order good e =
+split-decides t at order shaped sound e =
     let j = at .seat in
     let cards = cardsOf (turnHand t j .hand) in
     let S = stake (seatAt t j) in
     let many = length (hands (seatAt t j)) in
     let holds : (k : ℕ) → getD (splitConditions t j) k (0, false) .1 ≡ false = λ k. accepted-at (splitConditions t j) k refl e in
     let w =
-    in-turn t (good .shaped) (good .sound) j
+    in-turn t shaped sound j
     ((13, not (isPair cards)) ∷ (13, leb (t .options .hands) many) ∷ (15, ltb (purse (seatAt t j)) S) ∷ (18, ltb (cardsLeft t) 2) ∷ []) refl e in
     let x : Splits t j =
     record {
@@ -211,5 +211,14 @@ split-good opening es t at order good e =
       purse-has = ltb-false (purse (seatAt t j)) S (holds 7);
       left = ltb-false (cardsLeft t) 2 (holds 8);
     } in
-    one-call opening es t (entry (Split at) order) j (t .tray) (now t at order (good .shaped) (good .sound) w x) (drawn (t .shoe) 2) 2 S 0 good
-    (decided t at order (good .shaped) (good .sound) w x)
+    record {
+      j = j;
+      tray = t .tray;
+      seat = now t at order shaped sound w x;
+      shoe = drawn (t .shoe) 2;
+      k = 2;
+      more = S;
+      won = 0;
+      is = refl;
+      decided = decided t at order shaped sound w x;
+    }

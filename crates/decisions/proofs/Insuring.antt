@@ -22,12 +22,12 @@ use Rattle.table.specs.declared.Table.{Table}
 use Rattle.table.specs.Seat.{money, makeSeat, purse, stake, insurance, prizes}
 use Rattle.table.specs.Table.{seatAt, up}
 use Rattle.table.specs.Broken.{insurancePermitted}
-use Rattle.table.specs.Shape.{ShapedSeat}
+use Rattle.table.specs.Shape.{Shaped, ShapedSeat}
+use Rattle.table.specs.Sound.{Sound}
 use Rattle.table.proofs.SeatHands.{laid-playing}
-use Rattle.agreement.specs.Agrees.{Good}
 use Rattle.decisions.specs.Round.{roundConditions}
 use Rattle.decisions.specs.Insure.{insureConditions, insureEffect}
-use Rattle.decisions.proofs.OneCall.{Acting, Decided, draws-none, one-call}
+use Rattle.decisions.proofs.OneCall.{Acting, Decided, Decision, draws-none}
 use Rattle.decisions.proofs.Accepted.{acting, has-stake, Staked, staked-seat}
 
 -- what an accepted insurance gives
@@ -53,14 +53,15 @@ accepted t j n e =
       purse-has = ltb-false (purse s) n (at 9);
     }
 
-module _ (opening : List ℕ) (es : List Entry) (t : Table) (at : At) (n : ℕ) (order : List ℕ) (good : Good opening es t) (ins : Insures t (at .seat) n) where
-  abbrev insured-seat : Seat
-  insured-seat = makeSeat (money (purse (seatAt t (at .seat)) - n) (stake (seatAt t (at .seat))) n) (seatAt t (at .seat) .hands)
+-- the seat after it
+abbrev insured-seat : Table → ℕ → ℕ → Seat
+insured-seat t j n = makeSeat (money (purse (seatAt t j) - n) (stake (seatAt t j)) n) (seatAt t j .hands)
 
-  decided : Staked t (at .seat) → Decided t (entry (Insure at n) order) (at .seat) (t .tray) insured-seat (t .shoe) 0 n 0
+module _ (t : Table) (at : At) (n : ℕ) (order : List ℕ) (sound : Sound t) (ins : Insures t (at .seat) n) where
+  decided : Staked t (at .seat) → Decided t (entry (Insure at n) order) (at .seat) (t .tray) (insured-seat t (at .seat) n) (t .shoe) 0 n 0
   unfolding lays wins decide callTakes sum prizes
   decided seat =
-      let shaped : ShapedSeat insured-seat = record { four-places = seat .shaped .four-places; twenty-cards = seat .shaped .twenty-cards } in
+      let shaped : ShapedSeat (insured-seat t (at .seat) n) = record { four-places = seat .shaped .four-places; twenty-cards = seat .shaped .twenty-cards } in
       record {
         guest = record { least = omega arith; most = omega arith; seat-is = refl };
         acting = ins .acting;
@@ -73,20 +74,28 @@ module _ (opening : List ℕ) (es : List Entry) (t : Table) (at : At) (n : ℕ) 
         hands-are = λ c agree. refl;
         lays-it = simp (eq-eqb (at .seat) (at .seat) refl);
         wins-it = λ c agree. simp and-false;
-        laid-grows = omega (arith, laid-playing insured-seat shaped (seat .some), laid-playing (seatAt t (at .seat)) (seat .shaped) (seat .some), ins .none-yet);
+        laid-grows = omega (arith, laid-playing (insured-seat t (at .seat) n) shaped (seat .some), laid-playing (seatAt t (at .seat)) (seat .shaped) (seat .some), ins .none-yet);
         prizes-grow = omega arith;
         purse-pays = omega (arith, ins .purse-has);
         tray-pays = omega arith;
-        draws = draws-none t (good .sound);
+        draws = draws-none t sound;
         takes = λ staked c. refl;
         cards-moved = λ w. omega arith;
       }
 
-pub insure-good : (opening : List ℕ) (es : List Entry) (t : Table) (at : At) (n : ℕ) (order : List ℕ) → Good opening es t
-    → first (insureConditions t (at .seat) n) ≡ 0 → Good opening (entry (Insure at n) order ∷ es) (insureEffect t (at .seat) n)
+pub insure-decides : (t : Table) (at : At) (n : ℕ) (order : List ℕ) → Shaped t → Sound t → first (insureConditions t (at .seat) n) ≡ 0
+    → Decision t (entry (Insure at n) order) (insureEffect t (at .seat) n)
 unfolding insureEffect
-insure-good opening es t at n order good e =
+insure-decides t at n order shaped sound e =
     let ins = accepted t (at .seat) n e in
-    let seat = staked-seat t (good .shaped) (good .sound) (at .seat) (ins .acting) (ins .staked) in
-    one-call opening es t (entry (Insure at n) order) (at .seat) (t .tray) (insured-seat opening es t at n order good ins) (t .shoe) 0 n 0 good
-    (decided opening es t at n order good ins seat)
+    record {
+      j = at .seat;
+      tray = t .tray;
+      seat = insured-seat t (at .seat) n;
+      shoe = t .shoe;
+      k = 0;
+      more = n;
+      won = 0;
+      is = refl;
+      decided = decided t at n order sound ins (staked-seat t shaped sound (at .seat) (ins .acting) (ins .staked));
+    }

@@ -30,14 +30,13 @@ use Rattle.table.specs.Table.{withSeat, seatAt, seatsHands, up}
 use Rattle.table.specs.Shape.{Shaped}
 use Rattle.table.specs.Sound.{Sound}
 use Rattle.table.proofs.SeatHands.{hand-is}
-use Rattle.agreement.specs.Agrees.{Good}
 use Rattle.decisions.specs.Round.{roundConditions, anyDrew, placeOf, withPlace, endedBy}
 use Rattle.decisions.specs.Turn.{turnConditions, turnPlace, mayTake, endEffect}
 use Rattle.decisions.specs.Stand.{standConditions, standEffect}
 use Rattle.decisions.specs.Even.{evenConditions, evenEffect}
 use Rattle.decisions.specs.Five.{fiveConditions, fiveEffect}
 use Rattle.decisions.specs.Surrender.{surrenderConditions, surrenderEffect}
-use Rattle.decisions.proofs.OneCall.{Guest, no-kind, not-deal, not-stake, of-seat, draws-none, one-call}
+use Rattle.decisions.proofs.OneCall.{Guest, no-kind, not-deal, not-stake, of-seat, draws-none, Decision}
 use Rattle.decisions.proofs.Accepted.{acting, has-stake, Waiting, nine, staked-seat, seat-waiting, in-turn}
 use Rattle.decisions.proofs.OneHand.{HandCall, one-hand}
 
@@ -46,12 +45,12 @@ abbrev ended-seat : Table → ℕ → ℕ → ℕ → Seat
 ended-seat t j p code = withPlace (seatAt t j) p (endedBy (placeOf (seatAt t j) p) code)
 
 -- what the history makes of the call
-pub record Ending (t : Table) (e : Entry) (j p code : ℕ) : Type 0 where
-  pub guest : Guest e j
-  pub plain : isInsure e || isDraw e || isDouble e || isSplit e ≡ false
-  pub decides : (c : Cards) → decide (hands (seatAt t j)) (turnPlace t j) c e ≡ set (hands (seatAt t j)) p (ended (getD (hands (seatAt t j)) p noHand) code)
-  pub in-code : code ≤ 5
-  pub single : code ≡ byDouble → ⊥
+record Ending (t : Table) (e : Entry) (j p code : ℕ) : Type 0 where
+  guest : Guest e j
+  plain : isInsure e || isDraw e || isDouble e || isSplit e ≡ false
+  decides : (c : Cards) → decide (hands (seatAt t j)) (turnPlace t j) c e ≡ set (hands (seatAt t j)) p (ended (getD (hands (seatAt t j)) p noHand) code)
+  in-code : code ≤ 5
+  single : code ≡ byDouble → ⊥
 
 module _ (t : Table) (e : Entry) (j p code : ℕ) (d : Ending t e j p code) where
   plains : (isInsure e ≡ false) × (isDraw e ≡ false) × (isDouble e ≡ false) × (isSplit e ≡ false)
@@ -96,10 +95,19 @@ module _ (t : Table) (e : Entry) (j p code : ℕ) (d : Ending t e j p code) wher
         cards-grow = λ v. omega arith;
       }
 
-  end-good : (opening : List ℕ) (es : List Entry) → Good opening es t → Waiting t j p → Good opening (e ∷ es) (withSeat t j (ended-seat t j p code))
-  end-good opening es good w =
-      one-call opening es t e j (t .tray) (ended-seat t j p code) (t .shoe) 0 0 0 good
-      (one-hand t e j p (t .tray) (seatAt t j .money) (endedBy (placeOf (seatAt t j) p) code) (t .shoe) 0 0 0 (good .shaped) (good .sound) w (end-call (good .sound) w))
+  end-decides : Shaped t → Sound t → Waiting t j p → Decision t e (withSeat t j (ended-seat t j p code))
+  end-decides shaped sound w =
+      record {
+        j = j;
+        tray = t .tray;
+        seat = ended-seat t j p code;
+        shoe = t .shoe;
+        k = 0;
+        more = 0;
+        won = 0;
+        is = refl;
+        decided = one-hand t e j p (t .tray) (seatAt t j .money) (endedBy (placeOf (seatAt t j) p) code) (t .shoe) 0 0 0 shaped sound w (end-call sound w);
+      }
 
 -- nobody has split
 nobody-split : (t : Table) (j : ℕ) → Shaped t → j < 9 → anyDrew t ≡ false → length (hands (seatAt t j)) ≤ 1
@@ -109,39 +117,39 @@ nobody-split t j shaped nine none =
     ap seatDrew (sym (List·getD-map hands (t .seats) j noSeat)) ∙ any-not-at seatDrew (seatsHands t) j (hands noSeat) (omega (arith, length-map (t .seats) hands, shaped .nine-seats)) none in
     ltb-false 1 (length (hands (seatAt t j))) (or-eq-false (ltb 1 (length (hands (seatAt t j)))) (any (λ h. not (hasTwoCards h)) (hands (seatAt t j))) mine .0)
 
-module _ (opening : List ℕ) (es : List Entry) (t : Table) (at : At) (order : List ℕ) (good : Good opening es t) where
+module _ (t : Table) (at : At) (order : List ℕ) (shaped : Shaped t) (sound : Sound t) where
   -- stand, even and five end the hand whose turn it is
-  in-turn-good : (e : Entry) (code : ℕ) (rest : List Condition) → all (λ c. ltb 0 (c .0)) rest ≡ true → Ending t e (at .seat) (turnPlace t (at .seat)) code
-      → first (turnConditions t (at .seat) ++ rest) ≡ 0 → Good opening (e ∷ es) (endEffect code t (at .seat))
+  in-turn-decides : (e : Entry) (code : ℕ) (rest : List Condition) → all (λ c. ltb 0 (c .0)) rest ≡ true → Ending t e (at .seat) (turnPlace t (at .seat)) code
+      → first (turnConditions t (at .seat) ++ rest) ≡ 0 → Decision t e (endEffect code t (at .seat))
   unfolding endEffect
-  in-turn-good e code rest numbers d accepted =
-      end-good t e (at .seat) (turnPlace t (at .seat)) code d opening es good (in-turn t (good .shaped) (good .sound) (at .seat) rest numbers accepted)
+  in-turn-decides e code rest numbers d accepted =
+      end-decides t e (at .seat) (turnPlace t (at .seat)) code d shaped sound (in-turn t shaped sound (at .seat) rest numbers accepted)
 
-  pub stand-good : first (standConditions t (at .seat)) ≡ 0 → Good opening (entry (Stand at) order ∷ es) (standEffect t (at .seat))
+  pub stand-decides : first (standConditions t (at .seat)) ≡ 0 → Decision t (entry (Stand at) order) (standEffect t (at .seat))
   unfolding turnConditions roundConditions all decide
-  stand-good = in-turn-good (entry (Stand at) order) byStand [] refl (record { guest = record { least = omega arith; most = omega arith; seat-is = refl }; plain = refl; decides = λ c. refl; in-code = omega arith; single = λ h. omega arith })
+  stand-decides = in-turn-decides (entry (Stand at) order) byStand [] refl (record { guest = record { least = omega arith; most = omega arith; seat-is = refl }; plain = refl; decides = λ c. refl; in-code = omega arith; single = λ h. omega arith })
 
-  pub even-good : first (evenConditions t (at .seat)) ≡ 0 → Good opening (entry (Even at) order ∷ es) (evenEffect t (at .seat))
+  pub even-decides : first (evenConditions t (at .seat)) ≡ 0 → Decision t (entry (Even at) order) (evenEffect t (at .seat))
   unfolding evenConditions all decide
-  even-good =
-      in-turn-good (entry (Even at) order) byEven ((13, not (mayTake permitsEven t (at .seat))) ∷ []) refl
+  even-decides =
+      in-turn-decides (entry (Even at) order) byEven ((13, not (mayTake permitsEven t (at .seat))) ∷ []) refl
       (record { guest = record { least = omega arith; most = omega arith; seat-is = refl }; plain = refl; decides = λ c. refl; in-code = omega arith; single = λ h. omega arith })
 
-  pub five-good : first (fiveConditions t (at .seat)) ≡ 0 → Good opening (entry (Five at) order ∷ es) (fiveEffect t (at .seat))
+  pub five-decides : first (fiveConditions t (at .seat)) ≡ 0 → Decision t (entry (Five at) order) (fiveEffect t (at .seat))
   unfolding fiveConditions all decide
-  five-good =
-      in-turn-good (entry (Five at) order) byFive ((13, not (mayTake permitsFive t (at .seat))) ∷ []) refl
+  five-decides =
+      in-turn-decides (entry (Five at) order) byFive ((13, not (mayTake permitsFive t (at .seat))) ∷ []) refl
       (record { guest = record { least = omega arith; most = omega arith; seat-is = refl }; plain = refl; decides = λ c. refl; in-code = omega arith; single = λ h. omega arith })
 
   -- before anyone has drawn, doubled or split the seat has one hand, so the one that waits is at 0
-  pub surrender-good : first (surrenderConditions t (at .seat)) ≡ 0 → Good opening (entry (Surrender at) order ∷ es) (surrenderEffect t (at .seat))
+  pub surrender-decides : first (surrenderConditions t (at .seat)) ≡ 0 → Decision t (entry (Surrender at) order) (surrenderEffect t (at .seat))
   unfolding surrenderConditions surrenderEffect roundConditions all decide
-  surrender-good e =
+  surrender-decides e =
       let s = seatAt t (at .seat) in
       let holds : (k : ℕ) → getD (surrenderConditions t (at .seat)) k (0, false) .1 ≡ false = λ k. accepted-at (surrenderConditions t (at .seat)) k refl e in
-      let seat = staked-seat t (good .shaped) (good .sound) (at .seat) (acting t (at .seat) (holds 1) (holds 2)) (has-stake t (at .seat) (holds 3)) in
-      let w = seat-waiting t (good .shaped) (good .sound) (at .seat) seat (not-false (seatWaits (t .options) (up t) (hands s)) (holds 5)) in
-      let first-place : turnPlace t (at .seat) ≡ 0 = omega (arith, nobody-split t (at .seat) (good .shaped) (nine t (good .shaped) (good .sound) (at .seat) (seat .acting .within)) (holds 4), many-hands (s .hands) (seat .shaped .four-places), w .here) in
-      end-good t (entry (Surrender at) order) (at .seat) 0 bySurrender
+      let seat = staked-seat t shaped sound (at .seat) (acting t (at .seat) (holds 1) (holds 2)) (has-stake t (at .seat) (holds 3)) in
+      let w = seat-waiting t shaped sound (at .seat) seat (not-false (seatWaits (t .options) (up t) (hands s)) (holds 5)) in
+      let first-place : turnPlace t (at .seat) ≡ 0 = omega (arith, nobody-split t (at .seat) shaped (nine t shaped sound (at .seat) (seat .acting .within)) (holds 4), many-hands (s .hands) (seat .shaped .four-places), w .here) in
+      end-decides t (entry (Surrender at) order) (at .seat) 0 bySurrender
       (record { guest = record { least = omega arith; most = omega arith; seat-is = refl }; plain = refl; decides = λ c. refl; in-code = omega arith; single = λ h. omega arith })
-      opening es good (subst (Waiting t (at .seat)) first-place w)
+      shaped sound (subst (Waiting t (at .seat)) first-place w)

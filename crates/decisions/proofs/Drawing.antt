@@ -40,13 +40,13 @@ use Rattle.table.specs.Sound.{Sound, SoundHand}
 use Rattle.table.proofs.SeatHands.{with-hand, hand-is}
 use Rattle.table.proofs.NextCards.{card-at, next-one}
 use Rattle.table.proofs.Cover.{tray-covers}
-use Rattle.agreement.specs.Agrees.{CardsAgree, Good}
+use Rattle.agreement.specs.Agrees.{CardsAgree}
 use Rattle.decisions.specs.Round.{roundConditions}
 use Rattle.decisions.specs.Turn.{turnConditions, turnPlace, turnHand, mayTake}
 use Rattle.decisions.specs.Card.{cardAhead, grownHand, cardEffect}
 use Rattle.decisions.specs.Draw.{drawConditions, drawEffect}
 use Rattle.decisions.specs.Double.{doubleConditions, doubleEffect}
-use Rattle.decisions.proofs.OneCall.{Guest, of-seat, draws-some, one-call}
+use Rattle.decisions.proofs.OneCall.{Guest, of-seat, draws-some, Decision}
 use Rattle.decisions.proofs.Accepted.{Waiting, nine, in-turn}
 use Rattle.decisions.proofs.OneHand.{HandCall, one-hand}
 
@@ -156,11 +156,20 @@ module _ (t : Table) (e : Entry) (j more code : ℕ) (shaped : Shaped t) (sound 
             (arith, ap (sum v) cards, sum-snoc v (cardsOf (h .hand)) (cardAhead t 0), ap (sum v) (next-one t shaped sound (omega (arith, a .left))), sum-one v (cardAhead t 0));
       }
 
-  card-good : (opening : List ℕ) (es : List Entry) → Good opening es t → Good opening (e ∷ es) (cardEffect more code t j)
+  card-decides : Decision t e (cardEffect more code t j)
   unfolding cardEffect
-  card-good opening es good =
-      one-call opening es t e j (t .tray - won) (with-hand (seatAt t j) new-money (turnPlace t j) (grownHand t j code)) (drawn (t .shoe) 1) 1 more won good
-      (one-hand t e j (turnPlace t j) (t .tray - won) new-money (grownHand t j code) (drawn (t .shoe) 1) 1 more won shaped sound w card-call)
+  card-decides =
+      record {
+        j = j;
+        tray = t .tray - won;
+        seat = with-hand (seatAt t j) new-money (turnPlace t j) (grownHand t j code);
+        shoe = drawn (t .shoe) 1;
+        k = 1;
+        more = more;
+        won = won;
+        is = refl;
+        decided = one-hand t e j (turnPlace t j) (t .tray - won) new-money (grownHand t j code) (drawn (t .shoe) 1) 1 more won shaped sound w card-call;
+      }
 
 -- a hand that takes cards is below 21
 takes-below : (t : Table) (j : ℕ) → mayTake takesCards t j ≡ true → total (cardsOf (turnHand t j .hand)) < 21
@@ -176,15 +185,15 @@ double-takes t j e =
     let two = and-eq-true-iff (mayTake takesCards t j && hasTwoCards h) (eqb (t .options .double) 1 || eqb (total (h .cards)) 11) .0 e .0 in
     and-eq-true-iff (mayTake takesCards t j) (hasTwoCards h) .0 two .0
 
-module _ (opening : List ℕ) (es : List Entry) (t : Table) (at : At) (order : List ℕ) (good : Good opening es t) where
-  pub draw-good : first (drawConditions t (at .seat)) ≡ 0 → Good opening (entry (Draw at) order ∷ es) (drawEffect t (at .seat))
+module _ (t : Table) (at : At) (order : List ℕ) (shaped : Shaped t) (sound : Sound t) where
+  pub draw-decides : first (drawConditions t (at .seat)) ≡ 0 → Decision t (entry (Draw at) order) (drawEffect t (at .seat))
   unfolding drawConditions turnConditions roundConditions permitsDraw all lays decide callTakes
-  draw-good e =
+  draw-decides e =
       let j = at .seat in
       let may = mayTake takesCards t j in
       let holds : (k : ℕ) → getD (drawConditions t j) k (0, false) .1 ≡ false = λ k. accepted-at (drawConditions t j) k refl e in
-      let w = in-turn t (good .shaped) (good .sound) j ((13, not may) ∷ (18, ltb (cardsLeft t) 1) ∷ []) refl e in
-      card-good t (entry (Draw at) order) j 0 notEnded (good .shaped) (good .sound) w
+      let w = in-turn t shaped sound j ((13, not may) ∷ (18, ltb (cardsLeft t) 1) ∷ []) refl e in
+      card-decides t (entry (Draw at) order) j 0 notEnded shaped sound w
       (record {
         guest = record { least = omega arith; most = omega arith; seat-is = refl };
         no-insure = refl;
@@ -198,16 +207,15 @@ module _ (opening : List ℕ) (es : List Entry) (t : Table) (at : At) (order : L
         wager-is = λ h code. omega (arith, wager-single (stake (seatAt t j)) h (λ b. omega arith));
       })
       (record { below = takes-below t j (not-false may (holds 5)); purse-has = omega arith; left = ltb-false (cardsLeft t) 1 (holds 6) })
-      opening es good
 
-  pub double-good : first (doubleConditions t (at .seat)) ≡ 0 → Good opening (entry (Double at) order ∷ es) (doubleEffect t (at .seat))
+  pub double-decides : first (doubleConditions t (at .seat)) ≡ 0 → Decision t (entry (Double at) order) (doubleEffect t (at .seat))
   unfolding doubleConditions turnConditions roundConditions permitsDouble all lays decide callTakes
-  double-good e =
+  double-decides e =
       let j = at .seat in
       let S = stake (seatAt t j) in
       let holds : (k : ℕ) → getD (doubleConditions t j) k (0, false) .1 ≡ false = λ k. accepted-at (doubleConditions t j) k refl e in
-      let w = in-turn t (good .shaped) (good .sound) j ((13, not (mayTake permitsDouble t j)) ∷ (15, ltb (purse (seatAt t j)) S) ∷ (18, ltb (cardsLeft t) 1) ∷ []) refl e in
-      card-good t (entry (Double at) order) j S byDouble (good .shaped) (good .sound) w
+      let w = in-turn t shaped sound j ((13, not (mayTake permitsDouble t j)) ∷ (15, ltb (purse (seatAt t j)) S) ∷ (18, ltb (cardsLeft t) 1) ∷ []) refl e in
+      card-decides t (entry (Double at) order) j S byDouble shaped sound w
       (record {
         guest = record { least = omega arith; most = omega arith; seat-is = refl };
         no-insure = refl;
@@ -219,4 +227,3 @@ module _ (opening : List ℕ) (es : List Entry) (t : Table) (at : At) (order : L
         wager-is = λ h code. omega (arith, wager-double S h code);
       })
       (record { below = takes-below t j (double-takes t j (not-false (mayTake permitsDouble t j) (holds 5))); purse-has = ltb-false (purse (seatAt t j)) S (holds 6); left = ltb-false (cardsLeft t) 1 (holds 7) })
-      opening es good
