@@ -1,12 +1,13 @@
 -- A call that ends a round, close or void, keeps the agreement: no seat has a stake, an insurance, a hand or a prize left, and what the call adds
 -- to a purse is given.
 use mathlib.Core.Path.{_≡_, refl, sym, _∙_, ap, subst}
-use mathlib.Core.Bool.{true, false, and-false}
+use mathlib.Core.Bool.{true, false, not, and-false}
 use mathlib.Core.List.{List, [], _∷_, map}
-use Prim.Native.Nat.{ℕ, _+_, _*_}
+use Prim.Native.Nat.{ℕ, _+_, _*_, _<_}
 use native.Mathlib.Omega.{arith}
 use lib.IntN.{pos}
 use lib.ListN.{take, getD}
+use Rattle.lists.specs.Tests.{all}
 use Rattle.lists.proofs.Places.{view-map}
 use Rattle.lists.proofs.Differences.{Diff}
 use Rattle.options.specs.declared.Options.{Options}
@@ -17,14 +18,14 @@ use Rattle.table.specs.Seat.{noSeat, purse, stake, insurance, hands, laid, priz
 use Rattle.table.specs.Shoe.{isFresh}
 use Rattle.table.specs.Table.{seatAt}
 use Rattle.table.proofs.RoundEnd.{RoundEnd, cleared, roundEnded, cleared-laid, cleared-prizes, end-shaped, end-sound, end-money}
-use Rattle.history.specs.Entry.{Entry, isFill, isCredit, isBuy, isCash, isStake, isDeal, isInsure, isDraw, isDouble, isSplit, isEnd, isLoad}
+use Rattle.history.specs.Entry.{Entry, isKind, isFill, isCredit, isBuy, isCash, isStake, isDeal, isInsure, isDraw, isDouble, isSplit, isEnd, isLoad}
 use Rattle.history.specs.Rounds.{stakeIn, stakedBelow}
 use Rattle.history.specs.Cards.{Cards, makeCards, callTakes, bankAfter, cardsAfter, cardsOfHistory}
 use Rattle.history.specs.Hands.{handsAfter}
 use Rattle.history.specs.Money.{lays, wins, laidEver, prizesEver, prizeOf, bought, cashed, ended, endedBy, purseOf}
 use Rattle.agreement.specs.Agrees.{SeatAgrees, CardsAgree, Good}
 use Rattle.agreement.proofs.Purse.{purse-law}
-use Rattle.agreement.proofs.Quiet.{cond-same}
+use Rattle.agreement.proofs.Quiet.{cond-same, none-of}
 
 -- a call that ends a round and does nothing that another kind does
 pub record Ends (e : Entry) : Type 0 where
@@ -40,6 +41,30 @@ pub record Ends (e : Entry) : Type 0 where
   pub no-draw : isDraw e ≡ false
   pub no-double : isDouble e ≡ false
   pub no-split : isSplit e ≡ false
+
+-- the kinds that it is none of
+abbrev pub goingKinds : List ℕ
+goingKinds = 1 ∷ 2 ∷ 3 ∷ 4 ∷ 5 ∷ 6 ∷ 7 ∷ 9 ∷ 10 ∷ 11 ∷ 17 ∷ []
+
+pub ends : (e : Entry) → isEnd e ≡ true → all (λ k. not (isKind k e)) goingKinds ≡ true → Ends e
+ends e is-end h =
+    record {
+      is-end = is-end;
+      no-deal = none 5 (omega arith);
+      no-load = none 10 (omega arith);
+      no-fill = none 0 (omega arith);
+      no-credit = none 1 (omega arith);
+      no-buy = none 2 (omega arith);
+      no-cash = none 3 (omega arith);
+      no-stake = none 4 (omega arith);
+      no-insure = none 6 (omega arith);
+      no-draw = none 7 (omega arith);
+      no-double = none 8 (omega arith);
+      no-split = none 9 (omega arith);
+    }
+  where
+    none : (i : ℕ) → i < 11 → isKind (getD goingKinds i 0) e ≡ false
+    none i l = none-of e goingKinds i h l
 
 module _ (o : Options) (opening : List ℕ) (es : List Entry) (i : ℕ) (e : Entry) (q : Ends e) where
   lays-end : (S : ℕ) → lays i S e ≡ 0

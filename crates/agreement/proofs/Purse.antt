@@ -1,12 +1,12 @@
 -- The history's purse, one call on: its buys, cashes, laid money and prizes grow by so much, and an ended round adds z.
 use mathlib.Core.Path.{_≡_, _∙_, ap, subst}
-use mathlib.Core.Bool.{Bool, false, cond, _&&_}
+use mathlib.Core.Bool.{false, cond, _&&_}
 use mathlib.Core.List.{List, _∷_}
 use Prim.Native.Nat.{ℕ, _+_}
 use native.Mathlib.Omega.{arith}
 use lib.IntN.{ℤ, pos, _+ℤ_, _-ℤ_, +ℤ-comm, +ℤ-negℤ-cancel}
 use Rattle.lists.proofs.Tests.{or-eq-false}
-use Rattle.lists.proofs.Differences.{Diff, diff-pos, diff-add, diff-sub, diff-is, is-diff}
+use Rattle.lists.proofs.Differences.{Diff, diff-pos, diff-add, diff-sub, diff-is}
 use Rattle.options.specs.declared.Options.{Options}
 use Rattle.history.specs.Entry.{Entry, isOf, isBuy, isCash, isEnd, isClose, isVoid, amountOf}
 use Rattle.history.specs.Rounds.{stakeIn}

@@ -1,13 +1,13 @@
 -- What a call does not touch: the values of a seat that it does not name, and those of every seat where the call is of the house.
-use mathlib.Core.Path.{_≡_, refl, sym, _∙_, ap}
-use mathlib.Core.Bool.{Bool, true, false, not, cond, _&&_, _||_, and-false}
+use mathlib.Core.Path.{_≡_, refl, sym, _∙_}
+use mathlib.Core.Bool.{Bool, true, false, not, cond, and-false}
 use mathlib.Core.List.{List, [], _∷_}
-use Prim.Native.Nat.{ℕ, _+_, _<_}
+use Prim.Native.Nat.{ℕ, _<_}
 use native.Mathlib.Nat.{add-zero}
 use native.Mathlib.Omega.{arith}
 use Rattle.lists.proofs.Tests.{all-at, or-eq-false}
 use lib.IntN.{pos}
-use lib.ListN.{getD}
+use lib.ListN.{length, getD}
 use borrow.Author.Tests.{not-true}
 use Rattle.lists.specs.Tests.{all}
 use Rattle.options.specs.declared.Options.{Options}
@@ -15,9 +15,9 @@ use Rattle.table.specs.declared.Seat.{Seat}
 use Rattle.table.specs.Seat.{purse}
 use Rattle.history.specs.Entry.{Entry, isKind, isOf, isStake, isDeal, isInsure, isStand, isDraw, isDouble, isSplit, isSurrender, isEven, isFive, isEnd, isBuy, isCash, isClose, isVoid, isLoad}
 use Rattle.history.specs.Rounds.{stakeIn, insuranceIn}
-use Rattle.history.specs.Cards.{Cards, makeCards, cardsAfter, callTakes, bankAfter, cardsOfHistory}
+use Rattle.history.specs.Cards.{cardsAfter, callTakes, bankAfter, cardsOfHistory}
 use Rattle.history.specs.Hands.{handsAfter, handsIn, decide}
-use Rattle.history.specs.Money.{lays, wins, laidIn, laidEver, prizesIn, prizesEver, bought, cashed, ended, purseOf, prizeOf}
+use Rattle.history.specs.Money.{lays, wins, laidIn, prizesIn, purseOf, prizeOf}
 use Rattle.agreement.specs.Agrees.{SeatAgrees}
 use Rattle.agreement.proofs.Purse.{purse-moves}
 
@@ -76,6 +76,10 @@ pub record House (e : Entry) : Type 0 where
   pub no-even : isEven e ≡ false
   pub no-five : isFive e ≡ false
 
+-- a call of none of these kinds is not of the one at a place
+pub none-of : (e : Entry) (kinds : List ℕ) (i : ℕ) → all (λ k. not (isKind k e)) kinds ≡ true → i < length kinds → isKind (getD kinds i 0) e ≡ false
+none-of e kinds i h l = not-true (isKind (getD kinds i 0) e) (all-at (λ k. not (isKind k e)) kinds i 0 h l)
+
 -- the kinds that name a seat, deal, or end a round
 abbrev pub otherKinds : List ℕ
 otherKinds = 3 ∷ 4 ∷ 5 ∷ 6 ∷ 7 ∷ 8 ∷ 9 ∷ 10 ∷ 11 ∷ 12 ∷ 13 ∷ 14 ∷ 15 ∷ 16 ∷ []
@@ -99,7 +103,7 @@ house e h =
     }
   where
     none : (i : ℕ) → i < 14 → isKind (getD otherKinds i 0) e ≡ false
-    none i l = not-true (isKind (getD otherKinds i 0) e) (all-at (λ k. not (isKind k e)) otherKinds i 0 h l)
+    none i l = none-of e otherKinds i h l
 
 -- a test that picks one thing twice
 pub cond-same : {A : Type 0} (b : Bool) (x : A) → cond b x x ≡ x

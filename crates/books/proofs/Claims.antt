@@ -1,13 +1,13 @@
 -- A good table meets every sentence of the claim.
-use mathlib.Core.Path.{_≡_, refl, sym, _∙_, ap, subst}
-use mathlib.Core.Bool.{Bool, true, false, not, true≢false}
+use mathlib.Core.Path.{_≡_, refl, sym, _∙_, ap}
+use mathlib.Core.Bool.{false, not}
 use mathlib.Core.List.{List, [], _∷_, _++_}
-use Prim.Native.Nat.{ℕ, _+_, _≤_, _<_}
+use Prim.Native.Nat.{ℕ, _+_, _≤_}
 use native.Mathlib.Decide.{decLe}
 use native.Mathlib.Omega.{arith}
-use lib.ListN.{length, take, drop, take-append-drop, List·getD-eq-default}
+use lib.ListN.{length, take-append-drop, List·getD-eq-default}
 use borrow.Author.Tests.{ltb-false}
-use Rattle.lists.specs.Sum.{sum, isIt, count}
+use Rattle.lists.specs.Sum.{sum, isIt}
 use Rattle.lists.proofs.Sums.{sum-append}
 use Rattle.lists.proofs.Differences.{diff-pos, diff-sub, diff-is}
 use Rattle.table.specs.declared.Table.{Table}
@@ -15,10 +15,9 @@ use Rattle.table.specs.Seat.{noSeat, hands}
 use Rattle.table.specs.Table.{seatAt, handCards, bankCards, isDealt, tableOrder, tableShoe, tableDrawn, tableDiscards}
 use Rattle.table.specs.Money.{allMoney}
 use Rattle.table.specs.Broken.{sound}
-use Rattle.table.proofs.Facts.{facts-sound, no-hands}
+use Rattle.table.proofs.Facts.{facts-sound, no-hands, cards-left}
 use Rattle.history.specs.Entry.{Entry}
 use Rattle.history.specs.Rounds.{isDealtRound}
-use Rattle.history.specs.Cards.{cardsOfHistory}
 use Rattle.history.specs.Money.{cameIn, wentOut}
 use Rattle.agreement.specs.Agrees.{Good}
 use Rattle.cashier.proofs.Loads.{no-hand}
@@ -56,6 +55,7 @@ module _ (opening : List ℕ) (es : List Entry) (t : Table) (g : Good opening es
         hands-outside = λ e i. sym (a .seats i .hands-are) ∙ no-seat-hands e i;
         bank-outside = λ e. sym (c .bank) ∙ empty-list (bankCards t) (omega (arith, ltb-false 0 (length (bankCards t)) (none-dealt e)));
         shoe-is = rw (← c .taken, ← c .order) (take-append-drop (t .shoe .drawn) (tableOrder t));
+        left-is = sym (cards-left t (g .shaped .order) (g .sound));
         faces = λ face h.
             omega (
               arith,

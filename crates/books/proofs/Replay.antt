@@ -1,12 +1,11 @@
 -- The accepted calls of a run, played again alone, are accepted again: a refused call leaves the table as it was.
 use mathlib.Core.Path.{_≡_, refl, sym, _∙_, ap}
 use mathlib.Core.Bool.{Bool, true, false, cond}
-use mathlib.Core.List.{List, [], _∷_, _++_, reverse, reverseAux, reverseAux-reverseAux-nil}
-use Prim.Native.Nat.{ℕ}
+use mathlib.Core.List.{List, [], _∷_, reverse, reverseAux, reverseAux-reverseAux-nil}
 use lib.Dec.{eqb}
 use Rattle.table.specs.declared.Table.{Table}
 use Rattle.history.specs.Entry.{Entry}
-use Rattle.engine.specs.Step.{number, effect, next}
+use Rattle.engine.specs.Step.{number, next}
 use Rattle.engine.specs.Run.{run, accepted}
 use Rattle.books.specs.Laws.{Replayed}
 

@@ -28,7 +28,7 @@ use Rattle.decisions.specs.Surrender.{surrenderEffect}
 use Rattle.decisions.specs.Turn.{endEffect}
 use Rattle.decisions.specs.Card.{cardEffect}
 use Rattle.decisions.specs.Split.{splitEffect}
-use Rattle.decisions.proofs.OneCall.{Decision, decision-kept, decision-good}
+use Rattle.decisions.proofs.OneCall.{decision-kept, decision-good}
 use Rattle.decisions.proofs.Insuring.{insure-decides}
 use Rattle.decisions.proofs.Ending.{stand-decides, even-decides, five-decides, surrender-decides}
 use Rattle.decisions.proofs.Drawing.{draw-decides, double-decides}

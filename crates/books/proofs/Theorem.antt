@@ -1,15 +1,15 @@
 -- The theorem of demand 3, by induction on the list of calls: a table that is good stays good, and a good table meets the claim.
-use mathlib.Core.Path.{_≡_, refl, sym, _∙_, ap, subst}
+use mathlib.Core.Path.{_≡_, refl, _∙_, ap, subst}
 use mathlib.Core.Bool.{Bool, true, false, cond}
 use mathlib.Core.List.{List, [], _∷_}
 use Prim.Native.Nat.{ℕ}
 use lib.Dec.{eqb}
-use borrow.Author.Tests.{eq-eqb, eqb-true}
+use borrow.Author.Tests.{eqb-true}
 use Rattle.options.specs.declared.Options.{Options}
 use Rattle.table.specs.declared.Table.{Table}
 use Rattle.history.specs.Entry.{Entry}
 use Rattle.agreement.specs.Agrees.{Good}
-use Rattle.cashier.specs.Opening.{openNumber, opened, openTable}
+use Rattle.cashier.specs.Opening.{openNumber, opened}
 use Rattle.cashier.proofs.Opens.{open-good, accepted-table}
 use Rattle.engine.specs.Step.{number, effect, next}
 use Rattle.engine.specs.Run.{run, accepted}

@@ -5,11 +5,12 @@ use mathlib.Core.Bool.{false}
 use mathlib.Core.List.{List, [], _++_}
 use Prim.Native.Nat.{ℕ, _+_, _<_}
 use lib.IntN.{pos, _-ℤ_}
+use lib.ListN.{length}
 use Rattle.lists.specs.Sum.{count}
 use Rattle.options.specs.declared.Options.{Options}
 use Rattle.table.specs.declared.Table.{Table}
 use Rattle.table.specs.Seat.{purse, hands, laid}
-use Rattle.table.specs.Table.{seatAt, handCards, bankCards, tableShoe, tableDiscards}
+use Rattle.table.specs.Table.{seatAt, handCards, bankCards, tableShoe, cardsLeft, tableDiscards}
 use Rattle.table.specs.Money.{layout, purses}
 use Rattle.table.specs.Broken.{broken}
 use Rattle.history.specs.Entry.{Entry}
@@ -35,6 +36,8 @@ pub record Claim (o : Options) (opening : List ℕ) (es : List Entry) (t : Table
   pub bank-outside : isDealtRound es ≡ false → cardsOfHistory o opening es .bank ≡ []
   -- the cards that the history has drawn since its last load, followed by the table's shoe, are the order of its last load
   pub shoe-is : drawnCards o opening es ++ tableShoe t ≡ cardsOfHistory o opening es .order
+  -- and the count of cards left is how many that shoe has
+  pub left-is : cardsLeft t ≡ length (tableShoe t)
   -- of every face hands, bank, discards and shoe together hold as many cards as that order
   pub faces : (face : ℕ) → face < 52 → count face (handCards t) + count face (bankCards t) + count face (tableDiscards t) + count face (tableShoe t) ≡ count face (cardsOfHistory o opening es .order)
   -- the table is not broken

@@ -1,17 +1,16 @@
 -- load: the new shoe has nothing drawn and no discards, and outside a round no card lies anywhere else.
-use mathlib.Core.Path.{_≡_, refl, sym, _∙_, ap}
-use mathlib.Core.Bool.{Bool, true, false, not, true≢false, and-eq-true-iff, _&&_}
-use mathlib.Core.List.{List, [], _∷_, _++_}
-use Prim.Native.Nat.{ℕ, _+_, _-_, _*_, _≤_, _<_}
+use mathlib.Core.Path.{_≡_, refl, sym, _∙_}
+use mathlib.Core.Bool.{true, false, true≢false, and-eq-true-iff, _&&_}
+use mathlib.Core.List.{List, [], _∷_}
+use Prim.Native.Nat.{ℕ, _-_, _*_, _≤_, _<_}
 use native.Mathlib.Decide.{decLe}
 use native.Mathlib.Omega.{arith}
 use lib.Dec.{eqb, ltb}
-use lib.ListN.{length, getD, take, drop, replicate, length-append, length-replicate}
+use lib.ListN.{length, getD, take, replicate, length-append, length-replicate}
 use lib.Seq.{take-at}
 use borrow.Author.Tests.{eqb-true, ltb-false, not-false}
 use Rattle.lists.specs.Sum.{sum, isIt}
 use Rattle.lists.specs.Tests.{all}
-use Rattle.lists.specs.Below.{allBelow}
 use Rattle.lists.specs.Flat.{flat}
 use Rattle.lists.proofs.Sums.{sum-none, sum-ones}
 use Rattle.call.specs.declared.Call.the-variants.{Load}
@@ -21,7 +20,7 @@ use Rattle.table.specs.declared.Seat.{Seat}
 use Rattle.table.specs.declared.Table.{Table}
 use Rattle.table.specs.Seat.{noSeat, seatCards}
 use Rattle.table.specs.Shoe.{validOrder, newShoe}
-use Rattle.table.specs.Table.{withShoe, seatAt, isDealt, handCards, bankCards, tableOrder}
+use Rattle.table.specs.Table.{withShoe, seatAt, isDealt, bankCards}
 use Rattle.table.specs.Faces.{outCards}
 use Rattle.table.specs.Shape.{Shaped}
 use Rattle.table.specs.Sound.{Sound}
@@ -29,8 +28,8 @@ use Rattle.table.proofs.Facts.{decks-416}
 use Rattle.table.proofs.SeatChange.{sum-out}
 use Rattle.history.specs.Entry.{Entry, entry}
 use Rattle.history.specs.Cards.{cardsAfter}
-use Rattle.agreement.specs.Agrees.{Agrees, Good}
-use Rattle.agreement.proofs.Quiet.{House, house, house-seat}
+use Rattle.agreement.specs.Agrees.{Good}
+use Rattle.agreement.proofs.Quiet.{house, house-seat}
 use Rattle.cashier.specs.Load.{loadConditions, loadEffect}
 
 valid-length : (decks : ℕ) (order : List ℕ) → validOrder decks order ≡ true → length order ≡ 52 * decks

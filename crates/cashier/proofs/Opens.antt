@@ -1,8 +1,8 @@
 -- An accepted opening gives a table that is good: nothing is on it but the loaded order, and the history has no call yet.
-use mathlib.Core.Path.{_≡_, refl, sym, _∙_, ap, subst}
+use mathlib.Core.Path.{_≡_, refl, sym, ap, subst}
 use mathlib.Core.Bool.{true, false, true≢false}
 use mathlib.Core.List.{List, []}
-use Prim.Native.Nat.{ℕ, _+_, _≤_, _<_}
+use Prim.Native.Nat.{ℕ, _≤_, _<_}
 use native.Mathlib.Decide.{decLe}
 use native.Mathlib.Omega.{arith}
 use lib.ListN.{length, getD, replicate, length-replicate, getD-replicate, List·getD-eq-default}
@@ -10,15 +10,12 @@ use borrow.Author.Tests.{eq-eqb, not-false}
 use Rattle.lists.specs.Sum.{sum}
 use Rattle.lists.specs.Tests.{all}
 use Rattle.lists.specs.Flat.{flat}
-use Rattle.call.specs.Refusal.{first}
 use Rattle.call.proofs.Refusals.{accepted-at}
 use Rattle.cards.specs.Card.{isAce}
 use Rattle.options.specs.declared.Options.{Options}
 use Rattle.options.specs.Ranges.{inRange}
 use Rattle.options.proofs.Facts.{in-range-facts}
 use Rattle.standing.specs.declared.seat_hand.SeatHand.{SeatHand}
-use Rattle.table.specs.declared.Seat.{Seat}
-use Rattle.table.specs.declared.Table.{Table}
 use Rattle.table.specs.Seat.{noSeat, noPlace, emptyPlace, laid, prizes}
 use Rattle.table.specs.Shoe.{validOrder}
 use Rattle.table.specs.Table.{seatAt, isDealt, up}

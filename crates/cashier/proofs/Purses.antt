@@ -1,44 +1,38 @@
 -- buy, cash and stake change one seat's money between rounds: it has no hand then, so what it has laid is its stake.
-use mathlib.Core.Path.{_≡_, refl, sym, _∙_, ap}
-use mathlib.Core.Bool.{Bool, true, false, not, cond, _&&_, _||_, and-true, and-false, true≢false}
+use mathlib.Core.Path.{_≡_, refl, sym, _∙_}
+use mathlib.Core.Bool.{true, false, not, cond, _||_, and-true, and-false, true≢false}
 use mathlib.Core.List.{List, [], _∷_}
-use Prim.Native.Nat.{ℕ, _+_, _-_, _*_, _≤_, _<_}
-use native.Mathlib.Nat.{add-zero}
+use Prim.Native.Nat.{ℕ, _+_, _-_, _≤_, _<_}
 use native.Mathlib.Omega.{arith}
-use lib.Dec.{eqb, ltb, leb}
-use lib.IntN.{pos}
-use lib.ListN.{length, getD, take}
-use borrow.Author.Tests.{ltb-false, leb-false, eq-eqb, ne-eqb, eqb-false, not-true, not-false}
+use lib.Dec.{eqb}
+use lib.ListN.{getD}
+use borrow.Author.Tests.{ltb-false, leb-false, eq-eqb, ne-eqb, not-false}
 use Rattle.lists.specs.Sum.{sum}
 use Rattle.lists.specs.Tests.{all}
-use Rattle.lists.specs.Flat.{flat}
-use Rattle.lists.proofs.Tests.{all-at}
 use Rattle.call.specs.declared.At.{At}
 use Rattle.call.specs.declared.Call.the-variants.{Buy, Cash, Stake}
 use Rattle.call.specs.Refusal.{first}
 use Rattle.call.proofs.Refusals.{accepted-at}
 use Rattle.cards.specs.Card.{isAce}
-use Rattle.options.specs.declared.Options.{Options}
 use Rattle.table.specs.declared.Seat.{Seat}
 use Rattle.table.specs.declared.Table.{Table}
-use Rattle.table.specs.Seat.{money, makeSeat, purse, stake, insurance, hands, isStaked, laid, prizes, seatCards}
-use Rattle.table.specs.Table.{makeTable, withSeat, seatAt, isDealt, up}
+use Rattle.table.specs.Seat.{money, makeSeat, purse, stake, insurance, hands}
+use Rattle.table.specs.Table.{withSeat, seatAt, isDealt, up}
 use Rattle.table.specs.Money.{limit, allMoney}
-use Rattle.table.specs.Broken.{broken, stakePermitted}
-use Rattle.table.specs.Shape.{Shaped, ShapedSeat}
+use Rattle.table.specs.Broken.{stakePermitted}
+use Rattle.table.specs.Shape.{Shaped}
 use Rattle.table.specs.Sound.{Sound, SoundSeat}
 use Rattle.table.proofs.Facts.{sound-options, laid-stake, no-prizes}
 use Rattle.table.proofs.SeatChange.{SeatChange, change-shaped, change-money, change-sound}
-use Rattle.history.specs.Entry.{Entry, entry, isKind, isOf, isFill, isCredit, isBuy, isCash, isStake, isEnd, isDeal, isLoad, amountOf}
-use Rattle.history.specs.Rounds.{stakeIn, insuranceIn, stakedBelow}
-use Rattle.history.specs.Cards.{callTakes, cardsOfHistory}
+use Rattle.history.specs.Entry.{Entry, entry, isKind, isOf, isFill, isCredit, isBuy, isCash, isEnd, amountOf}
+use Rattle.history.specs.Rounds.{stakeIn}
+use Rattle.history.specs.Cards.{callTakes}
 use Rattle.history.specs.Hands.{handsAfter, decide, handsIn}
-use Rattle.history.specs.Money.{lays, wins, laidIn, prizesIn, purseOf, prizeOf}
-use Rattle.agreement.specs.Agrees.{SeatAgrees, Agrees, Good}
+use Rattle.history.specs.Money.{lays, wins, prizeOf}
+use Rattle.agreement.specs.Agrees.{SeatAgrees, Good}
 use Rattle.agreement.proofs.Purse.{purse-moves}
-use Rattle.agreement.proofs.Quiet.{cond-same}
-use Rattle.agreement.proofs.OneSeat.{SeatCall, one-call}
-use Rattle.cashier.specs.Between.{noSuchSeat, pastLimit}
+use Rattle.agreement.proofs.Quiet.{cond-same, none-of}
+use Rattle.agreement.proofs.OneSeat.{one-call}
 use Rattle.cashier.specs.Buy.{buyConditions, buyEffect}
 use Rattle.cashier.specs.Cash.{cashConditions, cashEffect}
 use Rattle.cashier.specs.Stake.{stakeConditions, stakeEffect}
@@ -119,7 +113,7 @@ record Told (es : List Entry) (t : Table) (e : Entry) (j S came went : ℕ) : Ty
 
 module _ (opening : List ℕ) (es : List Entry) (t : Table) (e : Entry) (j p S came went : ℕ) (g : Good opening es t) (b : Between t j p S came went) (told : Told es t e j S came went) where
   no : (k : ℕ) → k < 12 → isKind (getD roundKinds k 0) e ≡ false
-  no k l = not-true (isKind (getD roundKinds k 0) e) (all-at (λ n. not (isKind n e)) roundKinds k 0 (told .kinds) l)
+  no k l = none-of e roundKinds k (told .kinds) l
 
   of-itself : isOf j e ≡ true
   of-itself = told .of-seat j ∙ eq-eqb j j refl

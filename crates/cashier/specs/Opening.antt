@@ -11,7 +11,7 @@ use Rattle.options.specs.Ranges.{inRange}
 use Rattle.table.specs.declared.Seat.{Seat}
 use Rattle.table.specs.declared.Table.{Table}
 use Rattle.table.specs.Seat.{money, makeSeat, noHands}
-use Rattle.table.specs.Shoe.{validOrder, newShoe, makeShoe}
+use Rattle.table.specs.Shoe.{validOrder, newShoe}
 use Rattle.table.specs.Table.{makeTable}
 
 -- 2 an option outside its range; 3 wrong length, card or count.

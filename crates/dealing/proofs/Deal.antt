@@ -1,6 +1,6 @@
 -- An accepted deal keeps the table good: each staked seat has the cards that the history places behind the burn, by its rank among the staked seats.
 use mathlib.Core.Path.{_≡_, refl, sym, _∙_, ap, ap₂}
-use mathlib.Core.Bool.{true, false, cond, not, and-false}
+use mathlib.Core.Bool.{true, false, cond, and-false}
 use mathlib.Core.List.{List, [], _∷_}
 use Prim.Native.Nat.{ℕ, _+_, _-_, _*_, _≤_, _<_}
 use native.Mathlib.Decide.{decLe}
@@ -24,9 +24,8 @@ use Rattle.table.specs.declared.Shoe.{Shoe}
 use Rattle.table.specs.declared.Table.{Table}
 use Rattle.table.specs.Seat.{noSeat, purse, stake, insurance, isStaked, hands}
 use Rattle.table.specs.Shoe.{isFresh}
-use Rattle.table.specs.Table.{seatAt, isDealt, someStaked, cardsLeft}
+use Rattle.table.specs.Table.{seatAt, someStaked, cardsLeft}
 use Rattle.table.specs.Money.{allCover}
-use Rattle.table.specs.Broken.{broken}
 use Rattle.table.proofs.Facts.{sound-options, no-hands, no-prizes}
 use Rattle.table.specs.Shape.{Shaped}
 use Rattle.table.specs.Sound.{Sound}

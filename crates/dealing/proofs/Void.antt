@@ -7,6 +7,7 @@ use native.Mathlib.Omega.{arith}
 use lib.IntN.{pos}
 use lib.ListN.{List·getD-eq-default}
 use Rattle.lists.specs.Sum.{sum}
+use Rattle.lists.specs.Tests.{all}
 use Rattle.lists.proofs.Sums.{sum-plus, sum-at-same}
 use Rattle.lists.proofs.Differences.{diff-pos, diff-sub}
 use Rattle.call.specs.declared.Call.the-variants.{Void}
@@ -25,7 +26,7 @@ use Rattle.history.specs.Entry.{Entry, entry}
 use Rattle.history.specs.Cards.{callTakes}
 use Rattle.history.specs.Money.{laidIn, prizesIn, purseOf}
 use Rattle.agreement.specs.Agrees.{Good}
-use Rattle.agreement.proofs.EndOfRound.{Ends, EndCall, purse-end, end-call}
+use Rattle.agreement.proofs.EndOfRound.{Ends, ends, EndCall, purse-end, end-call}
 use Rattle.dealing.specs.Void.{voidConditions, voidSeat, voidEffect}
 
 -- a seat's purse after a void
@@ -55,21 +56,8 @@ void-paid t shaped sound =
     )
 
 void-ends : (order : List ℕ) → Ends (entry Void order)
-void-ends order =
-    record {
-      is-end = refl;
-      no-deal = refl;
-      no-load = refl;
-      no-fill = refl;
-      no-credit = refl;
-      no-buy = refl;
-      no-cash = refl;
-      no-stake = refl;
-      no-insure = refl;
-      no-draw = refl;
-      no-double = refl;
-      no-split = refl;
-    }
+unfolding all
+void-ends order = ends (entry Void order) refl refl
 
 round-end : (t : Table) → Shaped t → Sound t → RoundEnd t (voidEffect t .tray) (purseBack (t .options)) (voidEffect t .shoe) 0 (handCards t ++ bankCards t)
 unfolding sum voidEffect

@@ -1,5 +1,5 @@
 -- deal: burns into the discards, then from the lowest seat one card to each staked seat, one to the bank (the up card), a second to each seat.
-use mathlib.Core.Bool.{Bool, cond, not}
+use mathlib.Core.Bool.{cond, not}
 use mathlib.Core.List.{List, [], _∷_}
 use Prim.Native.Nat.{ℕ, _+_, _*_}
 use lib.Dec.{leb, ltb}

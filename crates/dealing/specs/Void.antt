@@ -1,7 +1,7 @@
 -- void: a misdeal (article 5). Each seat gets back what it laid in this round and returns its prizes. Drawn cards become discards.
 use mathlib.Core.Bool.{not}
 use mathlib.Core.List.{List, [], _∷_, _++_, map}
-use Prim.Native.Nat.{ℕ, _+_, _-_}
+use Prim.Native.Nat.{_+_, _-_}
 use Rattle.call.specs.Refusal.{Condition}
 use Rattle.hands.specs.Hand.{emptyHand}
 use Rattle.options.specs.declared.Options.{Options}

@@ -1,7 +1,7 @@
 -- An accepted insurance: the amount goes from the purse to the layout, and nothing else changes.
 use mathlib.Core.Path.{_≡_, refl}
 use mathlib.Core.Bool.{true, false, and-false}
-use mathlib.Core.List.{List, _∷_}
+use mathlib.Core.List.{List}
 use Prim.Native.Nat.{ℕ, _-_, _≤_, _<_}
 use native.Mathlib.Omega.{arith}
 use lib.ListN.{getD}
@@ -13,7 +13,7 @@ use Rattle.call.specs.declared.At.{At}
 use Rattle.call.specs.declared.Call.the-variants.{Insure}
 use Rattle.call.specs.Refusal.{first}
 use Rattle.call.proofs.Refusals.{accepted-at}
-use Rattle.history.specs.Entry.{Entry, entry}
+use Rattle.history.specs.Entry.{entry}
 use Rattle.history.specs.Cards.{callTakes}
 use Rattle.history.specs.Hands.{decide}
 use Rattle.history.specs.Money.{lays, wins}

@@ -28,7 +28,7 @@ use Rattle.call.specs.declared.At.{At}
 use Rattle.call.specs.declared.Call.the-variants.{Split}
 use Rattle.call.specs.Refusal.{first}
 use Rattle.call.proofs.Refusals.{accepted-at}
-use Rattle.history.specs.Entry.{Entry, entry}
+use Rattle.history.specs.Entry.{entry}
 use Rattle.history.specs.Cards.{Cards, callTakes}
 use Rattle.history.specs.Hands.{nextCard, splitOne, splitHands, decide}
 use Rattle.history.specs.Money.{lays, wins}

@@ -2,12 +2,11 @@
 use mathlib.Core.Bool.{Bool, not, _||_}
 use mathlib.Core.List.{List, [], _∷_}
 use Prim.Native.Nat.{ℕ}
-use lib.Dec.{leb, ltb, eqb}
-use lib.ListN.{getD, set, length}
+use lib.Dec.{leb, ltb}
+use lib.ListN.{getD, set}
 use Rattle.lists.specs.Tests.{any}
 use Rattle.call.specs.Refusal.{Condition}
 use Rattle.standing.specs.declared.seat_hand.SeatHand.{SeatHand}
-use Rattle.standing.specs.SeatHand.{Played}
 use Rattle.permission.specs.Permits.{seatDrew}
 use Rattle.table.specs.declared.Seat.{Seat}
 use Rattle.table.specs.declared.Table.{Table}

@@ -2,7 +2,6 @@
 use mathlib.Core.Bool.{not}
 use mathlib.Core.List.{List, [], _∷_, _++_}
 use Prim.Native.Nat.{ℕ}
-use lib.ListN.{length}
 use Rattle.call.specs.Refusal.{Condition}
 use Rattle.cards.specs.Card.{isAce}
 use Rattle.standing.specs.SeatHand.{bySurrender}

@@ -2,14 +2,14 @@
 use mathlib.Core.Path.{_≡_, refl}
 use mathlib.Core.Bool.{cond}
 use mathlib.Core.List.{List, [], _∷_, _++_}
-use Prim.Native.Nat.{ℕ, suc, _-_}
+use Prim.Native.Nat.{ℕ, suc}
 use lib.Dec.{eqb}
 use Rattle.lists.specs.Sum.{sum}
 use Rattle.lists.specs.Tests.{any, all, firstPlace}
 use Rattle.lists.specs.Below.{allBelow, anyBelow}
 use Rattle.lists.specs.Flat.{flat}
 use Rattle.call.specs.declared.Call.{Call}
-use Rattle.call.specs.declared.Call.the-variants.{Fill, Credit, Buy, Cash, Stake, Deal, Insure, Stand, Draw, Double, Split, Surrender, Even, Five, Close, Void, Load}
+use Rattle.call.specs.declared.Call.the-variants.{Fill, Buy, Stake, Deal, Insure, Stand, Double, Split, Close}
 use Rattle.call.specs.declared.At.{At}
 use Rattle.call.specs.Refusal.{first}
 use Rattle.cards.specs.Points.{pointsOf}

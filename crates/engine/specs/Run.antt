@@ -1,9 +1,7 @@
 -- Document 01, "The history": each call gets the table that the one before it returned, refused or not.
 use mathlib.Core.Bool.{cond}
 use mathlib.Core.List.{List, [], _∷_}
-use Prim.Native.Nat.{ℕ}
 use lib.Dec.{eqb}
-use Rattle.call.specs.declared.Call.{Call}
 use Rattle.table.specs.declared.Table.{Table}
 use Rattle.history.specs.Entry.{Entry}
 use Rattle.engine.specs.Step.{number, next}

@@ -1,10 +1,10 @@
 -- Hands: deal gives each seat that staked in the round one hand. A decision in turn goes to the hand whose turn it is, surrender to the
 -- seat's only hand. Split moves the second card to the new hand. A hand keeps its cards, where it comes from and how it ended; W follows.
-use mathlib.Core.Bool.{Bool, cond, not}
+use mathlib.Core.Bool.{cond}
 use mathlib.Core.List.{List, [], _∷_, _++_}
 use Prim.Native.Nat.{ℕ, suc, _+_}
 use lib.Dec.{ltb}
-use lib.ListN.{length, getD, take, drop, set}
+use lib.ListN.{getD, take, drop, set}
 use Rattle.cards.specs.Card.{isAce}
 use Rattle.options.specs.declared.Options.{Options}
 use Rattle.standing.specs.SeatHand.{Played, dealt, split, splitAces, notEnded, byStand, byDouble, bySurrender, byEven, byFive}

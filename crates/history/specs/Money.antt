@@ -1,7 +1,7 @@
 -- Money: a seat lays in a round its stake, its insurance, and S again for each double and split. Its purse is its buys − cashes − all it
 -- laid + all its prizes; for each closed round add what it laid and its nets; for each voided round add what it laid and take its prizes
 -- off. Its layout money is what it laid in the round not yet ended. These sums may pass below 0 on the way.
-use mathlib.Core.Bool.{Bool, cond, _&&_, _||_}
+use mathlib.Core.Bool.{cond, _&&_, _||_}
 use mathlib.Core.List.{List, [], _∷_}
 use Prim.Native.Nat.{ℕ, _+_}
 use lib.IntN.{ℤ, pos, _+ℤ_, _-ℤ_}

@@ -1,22 +1,20 @@
 -- The bank's cards at close, as the call draws them and as the history counts them.
-use mathlib.Core.Path.{_≡_, refl, sym, _∙_, ap, subst}
+use mathlib.Core.Path.{_≡_, refl, sym, _∙_}
 use mathlib.Core.Bool.{Bool, true, false, cond, true≢false}
 use mathlib.Core.List.{List, [], _∷_, _++_, append-assoc, append-nil}
-use Prim.Native.Nat.{ℕ, zero, suc, _+_, _-_, _*_, _≤_, _<_}
+use Prim.Native.Nat.{ℕ, suc, _+_, _≤_}
 use native.Mathlib.Omega.{arith}
-use lib.Dec.{leb, eqb}
-use lib.ListN.{length, getD, take, drop, length-append}
+use lib.Dec.{leb}
+use lib.ListN.{length, getD, take, drop}
 use lib.Seq.{drop-drop}
 use borrow.Author.Tests.{le-leb, eqb-true}
-use Rattle.lists.specs.Sum.{sum}
-use Rattle.lists.specs.Tests.{any}
 use Rattle.lists.proofs.Sums.{sum-one}
 use Rattle.lists.proofs.Tests.{any-one}
 use Rattle.lists.proofs.Picks.{cond-most}
 use Rattle.cards.specs.Card.{isAce, rankOf}
 use Rattle.cards.specs.Points.{pointsOf, pointsTable}
 use Rattle.cards.proofs.PointsLaws.{points-most}
-use Rattle.hands.specs.Total.{total, lowSum, hasAce}
+use Rattle.hands.specs.Total.{total, lowSum}
 use Rattle.hands.proofs.Bounds.{total-le}
 use Rattle.standing.specs.Bank.{mustDraw}
 use Rattle.options.specs.declared.Options.{Options}

@@ -1,26 +1,24 @@
 -- An accepted close keeps the table good: the tray pays what goes back from what was laid and its cover, and the cards are discards.
 use mathlib.Core.Path.{_≡_, refl, sym, _∙_, ap, subst}
-use mathlib.Core.Bool.{Bool, true, false, not}
+use mathlib.Core.Bool.{Bool, true, false}
 use mathlib.Core.List.{List, [], _∷_, _++_}
-use Prim.Native.Nat.{ℕ, _+_, _-_, _*_, _≤_, _<_, min}
+use Prim.Native.Nat.{ℕ, _+_, _-_, _*_, _≤_, _<_}
 use native.Mathlib.Decide.{decLe}
 use native.Mathlib.Omega.{arith}
-use lib.Dec.{eqb, ltb}
 use lib.IntN.{pos}
-use lib.ListN.{length, getD, take, drop, length-append, length-take, length-drop, List·getD-eq-default}
+use lib.ListN.{length, getD, take, drop, length-take, length-drop, List·getD-eq-default}
 use lib.Seq.{take-add, length-take-le}
 use borrow.Author.Tests.{ltb-true, not-false, ne-eqb}
 use Rattle.lists.specs.Sum.{sum}
 use Rattle.lists.specs.Tests.{all}
 use Rattle.lists.proofs.Sums.{sum-append, sum-plus, sum-at-most}
 use Rattle.lists.proofs.Picks.{cond-most}
-use Rattle.lists.proofs.Differences.{Diff, diff-pos, diff-add}
+use Rattle.lists.proofs.Differences.{diff-pos, diff-add}
 use Rattle.call.specs.declared.Call.the-variants.{Close}
 use Rattle.call.specs.Refusal.{first}
 use Rattle.call.proofs.Refusals.{accepted-at}
 use Rattle.cards.specs.Card.{isAce}
 use Rattle.options.specs.declared.Options.{Options}
-use Rattle.standing.specs.declared.bank.Score.{Score}
 use Rattle.standing.specs.Bank.{mustDraw, scoreOf}
 use Rattle.payment.specs.Wager.{wager}
 use Rattle.payment.specs.HandPay.{handPay}
@@ -30,16 +28,16 @@ use Rattle.table.specs.declared.Table.{Table}
 use Rattle.table.specs.Seat.{noSeat, purse, stake, insurance, hands, laid, prizes, seatCover}
 use Rattle.table.specs.Shoe.{drawn, discard, isFresh}
 use Rattle.table.specs.Table.{seatAt, handCards, bankCards, isDealt, up, tableOrder, tableShoe}
-use Rattle.table.specs.Money.{layout, allMoney, allPrizes, allCover}
+use Rattle.table.specs.Money.{layout}
 use Rattle.table.specs.Shape.{Shaped}
 use Rattle.table.specs.Sound.{Sound, SoundSeat, Nothing}
-use Rattle.table.proofs.Facts.{sound-options, decks-416, dealt-drawn, no-hands}
+use Rattle.table.proofs.Facts.{sound-options, dealt-drawn, no-hands}
 use Rattle.table.proofs.RoundEnd.{RoundEnd, end-shaped, end-sound}
 use Rattle.history.specs.Entry.{Entry, entry}
-use Rattle.history.specs.Cards.{Cards, makeCards, callTakes, closeBurns, bankTaken, bankFinal, cardsOfHistory}
-use Rattle.history.specs.Money.{closingScore, endedBy, purseOf}
-use Rattle.agreement.specs.Agrees.{SeatAgrees, CardsAgree, Good}
-use Rattle.agreement.proofs.EndOfRound.{Ends, EndCall, purse-end, end-call}
+use Rattle.history.specs.Cards.{Cards, makeCards, callTakes, bankTaken, bankFinal, cardsOfHistory}
+use Rattle.history.specs.Money.{closingScore, purseOf}
+use Rattle.agreement.specs.Agrees.{Good}
+use Rattle.agreement.proofs.EndOfRound.{Ends, ends, EndCall, purse-end, end-call}
 use Rattle.settling.specs.BankDraw.{bankBurn, bankTakes, burntAtClose, bankAtClose, closeTakes}
 use Rattle.settling.specs.Close.{closeConditions, closeScore, seatBack, closeEffect}
 use Rattle.settling.proofs.Bank.{known, burns-same, bank-same, bank-enough, bank-new}
@@ -202,21 +200,8 @@ module _ (opening : List ℕ) (es : List Entry) (t : Table) (order : List ℕ) (
   score-is = ap scoreOf (ap (bankFinal (t .options)) cards-are ∙ sym (final-same t (g .shaped) (g .sound) e))
 
   closes : Ends (entry Close order)
-  closes =
-      record {
-        is-end = refl;
-        no-deal = refl;
-        no-load = refl;
-        no-fill = refl;
-        no-credit = refl;
-        no-buy = refl;
-        no-cash = refl;
-        no-stake = refl;
-        no-insure = refl;
-        no-draw = refl;
-        no-double = refl;
-        no-split = refl;
-      }
+  unfolding all
+  closes = ends (entry Close order) refl refl
 
   -- the purse of a seat of any number
   purses : (i : ℕ) → pos (paid t (g .shaped) (g .sound) e (seatAt t i)) ≡ purseOf (t .options) opening (entry Close order ∷ es) i

@@ -1,12 +1,11 @@
 -- What goes back to a seat at close, against the history's nets: a net is what goes back less what lay there.
-use mathlib.Core.Path.{_≡_, refl, sym, _∙_, ap, subst₂}
-use mathlib.Core.Bool.{Bool, true, false, cond}
+use mathlib.Core.Path.{_≡_, refl, subst₂}
+use mathlib.Core.Bool.{Bool, true}
 use mathlib.Core.List.{List, [], _∷_}
-use Prim.Native.Nat.{ℕ, _+_, _*_, _≤_, _<_}
+use Prim.Native.Nat.{ℕ, _+_, _≤_}
 use native.Mathlib.Decide.{decLe}
 use native.Mathlib.Omega.{arith}
-use lib.Dec.{eqb}
-use lib.IntN.{ℤ, pos}
+use lib.IntN.{ℤ}
 use lib.ListN.{length}
 use borrow.Author.Tests.{ne-eqb}
 use Rattle.lists.specs.Sum.{sum}
@@ -21,7 +20,7 @@ use Rattle.payment.specs.HandPay.{handPay}
 use Rattle.payment.specs.Insurance.{insurancePay}
 use Rattle.payment.proofs.Bounds.{seat-cover}
 use Rattle.table.specs.declared.Seat.{Seat}
-use Rattle.table.specs.Seat.{purse, stake, insurance, hands, laid, prizes, seatCover}
+use Rattle.table.specs.Seat.{stake, insurance, hands, laid, prizes, seatCover}
 use Rattle.table.specs.Sound.{SoundSeat}
 use Rattle.table.proofs.Facts.{insurance-most, few-hands, most-many, hands-many, no-hands}
 use Rattle.history.specs.Money.{handNets}

@@ -1,5 +1,5 @@
 -- Number 1: broken table. docs/BROKEN.md says it in words. A table is broken unless it is sound, and each part of sound is one test.
-use mathlib.Core.Bool.{Bool, true, false, cond, not, _&&_, _||_}
+use mathlib.Core.Bool.{Bool, cond, not, _&&_, _||_}
 use Prim.Native.Nat.{ℕ, _+_, _*_}
 use lib.Dec.{ltb, leb, eqb}
 use lib.ListN.{length, take}

@@ -3,7 +3,7 @@ use mathlib.Core.Bool.{Bool, cond}
 use mathlib.Core.List.{List, []}
 use Prim.Native.Nat.{ℕ, _+_}
 use lib.Dec.{ltb, eqb}
-use lib.ListN.{length, set, replicate}
+use lib.ListN.{length, replicate}
 use Rattle.lists.specs.Sum.{sum}
 use Rattle.lists.specs.Flat.{flat}
 use Rattle.hands.specs.Hand.{emptyHand}

@@ -1,6 +1,6 @@
 -- The table and its views.
 use mathlib.Core.Bool.{Bool}
-use mathlib.Core.List.{List, map, _++_}
+use mathlib.Core.List.{List, map}
 use Prim.Native.Nat.{ℕ}
 use lib.Dec.{ltb}
 use lib.ListN.{length, getD, set}
