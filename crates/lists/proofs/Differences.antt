@@ -1,5 +1,5 @@
 -- Whole numbers as differences of naturals: `Diff z p m` says that z is p − m. Sums and differences of money are then linear arithmetic.
-use mathlib.Core.Path.{_≡_, refl, sym, _∙_, ap, ap₂}
+use mathlib.Core.Path.{_≡_, sym, _∙_, ap, ap₂}
 use Prim.Native.Nat.{ℕ, _+_}
 use lib.IntN.{ℤ, pos, _+ℤ_, _-ℤ_, +ℤ-assoc, +ℤ-comm, +ℤ-idr, +ℤ-negℤ-cancel, -ℤ-+ℤ-cancel}
 
@@ -31,10 +31,7 @@ diff-sub {z} {y} {p} {m} {q} {n} e f =
           ∙ ap (λ (x : ℤ). x +ℤ pos n) (e .is);
     }
 
--- a difference comes to a natural where the two naturals say so, and back
+-- a difference comes to a natural where the two naturals say so
 pub diff-is : {z : ℤ} {p m : ℕ} → Diff z p m → (x : ℕ) → p ≡ x + m → pos x ≡ z
 diff-is {z} {p} {m} e x h =
     sym (+ℤ-negℤ-cancel (pos x) (pos m)) ∙ ap (λ (y : ℤ). y -ℤ pos m) (ap pos (sym h) ∙ sym (e .is)) ∙ +ℤ-negℤ-cancel z (pos m)
-
-pub is-diff : {z : ℤ} (x : ℕ) → pos x ≡ z → Diff z x 0
-is-diff {z} x e = record { is = +ℤ-idr z ∙ sym e }

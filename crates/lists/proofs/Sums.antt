@@ -9,7 +9,6 @@ use lib.ListN.{length, take, getD, set}
 use lib.Seq.{take-suc}
 use Rattle.lists.specs.Sum.{sum}
 use Rattle.lists.specs.Tests.{any}
-use Rattle.lists.specs.Below.{sumBelow}
 use Rattle.lists.specs.Flat.{flat}
 use Rattle.lists.proofs.Tests.{or-eq-false}
 
