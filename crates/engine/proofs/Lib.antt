@@ -1,2 +1,3 @@
--- The marked session over the definitions.
+-- The marked session over the definitions, and what a broken table answers.
 pub mod Session
+pub mod BrokenTable

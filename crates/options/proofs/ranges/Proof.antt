@@ -62,7 +62,7 @@ returns c =
     let eleven = c .before .before .before .before .before .before in
     let seven = eleven .before .before .before .before in
     let three = seven .before .before .before .before in
-    rw (
+    simp (
       c .range3 .ensures,
       c .before .range2 .ensures,
       c .before .before .range .ensures,

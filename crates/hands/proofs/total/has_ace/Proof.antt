@@ -42,7 +42,7 @@ returns c =
     let full : length (h .cards) ≡ 20 = search needs in
     let below : i < h .count = omega arith in
     let inside : i < length (cardsOf h) = simp length-take (omega arith) in
-    let ace : isAce (getD (cardsOf h) i 0) ≡ true = rw getD-take (cc) in
+    let ace : isAce (getD (cardsOf h) i 0) ≡ true = rw getD-take (sym (c .before .is-ace .ensures) ∙ c .if1 .taken) in
     sym (any-at isAce (cardsOf h) i 0 inside ace)
 
 add-i : tie.Need-add-i Inv-loop μ-loop
@@ -57,7 +57,7 @@ loop-again c =
     let i = c .before .before .before .before .loop .i in
     let full : length cards ≡ 20 = search needs in
     let below : i < length cards = omega arith in
-    let here : isAce (getD cards i 0) ≡ false = cc in
+    let here : isAce (getD cards i 0) ≡ false = sym (c .before .is-ace .ensures) ∙ c .if1 .left in
     (omega arith, rw (add-one, any-take isAce cards i 0, c .before .before .before .before .loop .inv .1, here))
 
 returns-2 : tie.Need-returns-2 Inv-loop μ-loop

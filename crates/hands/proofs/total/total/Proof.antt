@@ -1,5 +1,5 @@
 -- `total` asks for an ace only where the low sum leaves room for ten more, which is the definition's test in another order.
-use mathlib.Core.Path.{_≡_}
+use mathlib.Core.Path.{_≡_, sym, _∙_}
 use mathlib.Core.Bool.{true, false, and-false}
 use Prim.Native.Nat.{_+_}
 use native.Mathlib.Omega.{arith}
@@ -24,7 +24,7 @@ returns : tie.Need-returns
 unfolding total
 returns c =
     let cards = cardsOf (c .before .before .before .before .args .h) in
-    let ace : hasAce cards ≡ true = cc in
+    let ace : hasAce cards ≡ true = sym (c .before .has-ace .ensures) ∙ c .if2 .taken in
     let fits : leb (lowSum cards + 10) 21 ≡ true = le-leb (lowSum cards + 10) 21 (omega arith) in
     simp (ace, fits) (omega arith)
 
@@ -32,7 +32,7 @@ returns-2 : tie.Need-returns-2
 unfolding total
 returns-2 c =
     let cards = cardsOf (c .before .before .before .before .args .h) in
-    let none : hasAce cards ≡ false = cc in
+    let none : hasAce cards ≡ false = sym (c .before .has-ace .ensures) ∙ c .if2 .left in
     simp none (omega arith)
 
 returns-3 : tie.Need-returns-3

@@ -1,5 +1,5 @@
 -- `is_natural` reads the two cards of a hand of two; an ace is no ten-value, so that the other card decides.
-use mathlib.Core.Path.{_≡_}
+use mathlib.Core.Path.{_≡_, sym, _∙_}
 use mathlib.Core.Bool.{true, false, or-false}
 use native.Mathlib.Omega.{arith}
 use Prim.Native.Nat.{ℕ}
@@ -41,8 +41,8 @@ returns-2 c =
     let h = c .before .before .before .before .before .before .args .t1 in
     let full : length (h .cards) ≡ 20 = search needs in
     let cards = take-two (h .cards) (h .count) 0 (omega arith) (omega arith) in
-    let ace : isAce (getD (h .cards) 0 0) ≡ true = cc in
-    simp (cards, ace, ace-no-ten (getD (h .cards) 0 0) ace, or-false) (cc)
+    let ace : isAce (getD (h .cards) 0 0) ≡ true = sym (c .before .before .is-ace .ensures) ∙ c .before .if2 .taken in
+    simp (cards, ace, ace-no-ten (getD (h .cards) 0 0) ace, or-false) (c .is-ten-value .ensures)
 
 is-ace-requires-2 : tie.Need-is-ace-requires-2
 is-ace-requires-2 c κs = search needs
@@ -56,9 +56,9 @@ returns-3 c =
     let h = c .before .before .before .before .before .before .before .before .args .t1 in
     let full : length (h .cards) ≡ 20 = search needs in
     let cards = take-two (h .cards) (h .count) 0 (omega arith) (omega arith) in
-    let none : isAce (getD (h .cards) 0 0) ≡ false = cc in
-    let ace : isAce (getD (h .cards) 1 0) ≡ true = cc in
-    simp (cards, none, ace, ace-no-ten (getD (h .cards) 1 0) ace, or-false) (cc)
+    let none : isAce (getD (h .cards) 0 0) ≡ false = sym (c .before .before .before .before .is-ace .ensures) ∙ c .before .before .before .if2 .left in
+    let ace : isAce (getD (h .cards) 1 0) ≡ true = sym (c .before .before .is-ace2 .ensures) ∙ c .before .if3 .taken in
+    simp (cards, none, ace, ace-no-ten (getD (h .cards) 1 0) ace, or-false) (c .is-ten-value2 .ensures)
 
 returns-4 : tie.Need-returns-4
 unfolding isNatural any
@@ -66,8 +66,8 @@ returns-4 c =
     let h = c .before .before .before .before .before .before .before .args .t1 in
     let full : length (h .cards) ≡ 20 = search needs in
     let cards = take-two (h .cards) (h .count) 0 (omega arith) (omega arith) in
-    let none : isAce (getD (h .cards) 0 0) ≡ false = cc in
-    let neither : isAce (getD (h .cards) 1 0) ≡ false = cc in
+    let none : isAce (getD (h .cards) 0 0) ≡ false = sym (c .before .before .before .is-ace .ensures) ∙ c .before .before .if2 .left in
+    let neither : isAce (getD (h .cards) 1 0) ≡ false = sym (c .before .is-ace2 .ensures) ∙ c .if3 .left in
     simp (cards, none, neither)
 
 pub is-natural-spec : {M : Type 1} → statement M

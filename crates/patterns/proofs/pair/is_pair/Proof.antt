@@ -34,7 +34,7 @@ returns-2 c =
     let h = c .before .before .before .before .before .args .t1 in
     let full : length (h .cards) ≡ 20 = search needs in
     let cards = take-two (h .cards) (h .count) 0 (omega arith) (omega arith) in
-    rw cards (cc)
+    rw (cards, c .before .rank .ensures, c .rank2 .ensures)
 
 pub is-pair-spec : {M : Type 1} → statement M
 is-pair-spec =

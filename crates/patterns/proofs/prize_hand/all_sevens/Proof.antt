@@ -1,6 +1,9 @@
 -- `all_sevens` asks card by card.
+use mathlib.Core.Path.{ap}
 use mathlib.Core.Bool.{and-true, and-false}
+use Prim.Native.Nat.{ℕ}
 use native.Mathlib.Omega.{arith}
+use lib.Dec.{eqb}
 use borrow.Author.Tests.{eq-eqb, ne-eqb}
 use Rattle.lists.specs.Tests.{all}
 use Rattle.cards.specs.Card.{rankOf}
@@ -30,7 +33,7 @@ returns-3 : tie.Need-returns-3
 unfolding all allSevens
 returns-3 c =
     let at = c .before .before .before .before .before .args in
-    simp (eq-eqb (rankOf (at .a)) 6 (omega arith), eq-eqb (rankOf (at .b)) 6 (omega arith), and-true) (cc)
+    simp (eq-eqb (rankOf (at .a)) 6 (omega arith), eq-eqb (rankOf (at .b)) 6 (omega arith), and-true) (ap (λ (n : ℕ). eqb n 6) (c .rank3 .ensures))
 
 pub all-sevens-spec : {M : Type 1} → statement M
 all-sevens-spec =

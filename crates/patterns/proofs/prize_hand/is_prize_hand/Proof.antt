@@ -1,5 +1,5 @@
 -- `is_prize_hand` reads the three cards of a hand of three.
-use mathlib.Core.Path.{_≡_}
+use mathlib.Core.Path.{_≡_, sym, _∙_}
 use mathlib.Core.Bool.{true, false}
 use mathlib.Core.List.{[], _∷_}
 use native.Mathlib.Omega.{arith}
@@ -36,7 +36,7 @@ returns-2 c =
     let h = c .before .before .before .before .before .before .args .t1 in
     let full : length (h .cards) ≡ 20 = search needs in
     let cards = take-three (h .cards) (h .count) 0 (omega arith) (omega arith) in
-    let sevens : allSevens (getD (h .cards) 0 0 ∷ getD (h .cards) 1 0 ∷ getD (h .cards) 2 0 ∷ []) ≡ true = cc in
+    let sevens : allSevens (getD (h .cards) 0 0 ∷ getD (h .cards) 1 0 ∷ getD (h .cards) 2 0 ∷ []) ≡ true = sym (c .before .all-sevens .ensures) ∙ c .if2 .taken in
     simp (cards, sevens)
 
 suited-six-seven-eight-requires : tie.Need-suited-six-seven-eight-requires
@@ -48,8 +48,8 @@ returns-3 c =
     let h = c .before .before .before .before .before .before .before .args .t1 in
     let full : length (h .cards) ≡ 20 = search needs in
     let cards = take-three (h .cards) (h .count) 0 (omega arith) (omega arith) in
-    let none : allSevens (getD (h .cards) 0 0 ∷ getD (h .cards) 1 0 ∷ getD (h .cards) 2 0 ∷ []) ≡ false = cc in
-    simp (cards, none) (cc)
+    let none : allSevens (getD (h .cards) 0 0 ∷ getD (h .cards) 1 0 ∷ getD (h .cards) 2 0 ∷ []) ≡ false = sym (c .before .before .all-sevens .ensures) ∙ c .before .if2 .left in
+    simp (cards, none) (c .suited-six-seven-eight .ensures)
 
 pub is-prize-hand-spec : {M : Type 1} → statement M
 is-prize-hand-spec =

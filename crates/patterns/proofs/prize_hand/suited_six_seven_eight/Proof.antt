@@ -59,7 +59,7 @@ returns-5 c =
     let six = sym (first .before .one-has-rank .ensures) ∙ not-false _ (first .if1 .left) in
     let seven = sym (second .before .one-has-rank2 .ensures) ∙ not-false _ (second .if2 .left) in
     let eight = sym (third .before .one-has-rank3 .ensures) ∙ not-false _ (third .if3 .left) in
-    simp (six, seven, eight, eq-eqb (suitOf (at .a)) (suitOf (at .a)) refl, eq-eqb (suitOf (at .b)) (suitOf (at .a)) (omega arith), and-true) (cc)
+    simp (six, seven, eight, eq-eqb (suitOf (at .a)) (suitOf (at .a)) refl, eq-eqb (suitOf (at .b)) (suitOf (at .a)) (omega arith), and-true) (rw (c .before .suit3 .ensures, c .suit4 .ensures))
 
 pub suited-six-seven-eight-spec : {M : Type 1} → statement M
 suited-six-seven-eight-spec =

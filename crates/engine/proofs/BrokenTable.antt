@@ -1,0 +1,56 @@
+-- Every call on a broken table answers 1, and the empty table is broken.
+use mathlib.Core.Path.{_≡_, refl}
+use mathlib.Core.Bool.{true}
+use mathlib.Core.List.{List}
+use Prim.Native.Nat.{ℕ}
+use Rattle.lists.specs.Tests.{all}
+use Rattle.call.specs.declared.Call.{Call}
+use Rattle.call.specs.declared.Call.the-variants.{Fill, Credit, Buy, Cash, Stake, Deal, Insure, Stand, Draw, Double, Split, Surrender, Even, Five, Close, Void, Load}
+use Rattle.call.specs.Refusal.{first}
+use Rattle.options.specs.Ranges.{ranges, inRange}
+use Rattle.table.specs.declared.Table.{Table}
+use Rattle.table.specs.Broken.{sound, broken}
+use Rattle.cashier.specs.Opening.{emptyTable}
+use Rattle.cashier.specs.Fill.{fillConditions}
+use Rattle.cashier.specs.Credit.{creditConditions}
+use Rattle.cashier.specs.Buy.{buyConditions}
+use Rattle.cashier.specs.Cash.{cashConditions}
+use Rattle.cashier.specs.Load.{loadConditions}
+use Rattle.cashier.specs.Stake.{stakeConditions}
+use Rattle.dealing.specs.Deal.{dealConditions}
+use Rattle.dealing.specs.Void.{voidConditions}
+use Rattle.decisions.specs.Round.{roundConditions}
+use Rattle.decisions.specs.Insure.{insureConditions}
+use Rattle.decisions.specs.Surrender.{surrenderConditions}
+use Rattle.decisions.specs.Turn.{turnConditions}
+use Rattle.decisions.specs.Draw.{drawConditions}
+use Rattle.decisions.specs.Double.{doubleConditions}
+use Rattle.decisions.specs.Split.{splitConditions}
+use Rattle.decisions.specs.Even.{evenConditions}
+use Rattle.decisions.specs.Five.{fiveConditions}
+use Rattle.settling.specs.Close.{closeConditions}
+use Rattle.engine.specs.Step.{number}
+
+pub broken-one : (t : Table) → broken t ≡ true → (c : Call) (order : List ℕ) → number t c order ≡ 1
+unfolding number first fillConditions creditConditions buyConditions cashConditions stakeConditions dealConditions roundConditions insureConditions turnConditions drawConditions doubleConditions splitConditions surrenderConditions evenConditions fiveConditions closeConditions voidConditions loadConditions
+broken-one t b (Fill n) order = simp b
+broken-one t b (Credit n) order = simp b
+broken-one t b (Buy at n) order = simp b
+broken-one t b (Cash at n) order = simp b
+broken-one t b (Stake at n) order = simp b
+broken-one t b Deal order = simp b
+broken-one t b (Insure at n) order = simp b
+broken-one t b (Stand at) order = simp b
+broken-one t b (Draw at) order = simp b
+broken-one t b (Double at) order = simp b
+broken-one t b (Split at) order = simp b
+broken-one t b (Surrender at) order = simp b
+broken-one t b (Even at) order = simp b
+broken-one t b (Five at) order = simp b
+broken-one t b Close order = simp b
+broken-one t b Void order = simp b
+broken-one t b Load order = simp b
+
+pub empty-broken : broken emptyTable ≡ true
+unfolding sound inRange ranges all
+empty-broken = refl
