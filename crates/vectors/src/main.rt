@@ -1,23 +1,17 @@
 // Examples of the rules that calls and history share: for each clause of waiting, permission and payment one that tells it
-// from its neighbour. The expected lines, in the file stdout, are worked out by hand from document 01.
+// from its neighbour. The file stdin is the table of them; the expected lines, in the file stdout, are worked out by hand
+// from document 01.
 mod examples;
 mod lines;
 mod paid;
 mod permitted;
+mod table;
 mod waiting;
 
+use libc::STDIN_FILENO;
+
 fn main() {
-    waiting::by_cards();
-    waiting::with_five_cards();
-    waiting::from_split_aces();
-    waiting::by_place();
-    permitted::stand_and_draw();
-    permitted::double();
-    permitted::split();
-    permitted::even_and_five();
-    permitted::surrender();
-    paid::by_decision();
-    paid::by_naturals();
-    paid::by_totals();
-    paid::beside_the_hand();
+    let mut text = io::large_buffer();
+    let n = io::read_full(STDIN_FILENO, &mut text);
+    table::each(&text[..n]);
 }

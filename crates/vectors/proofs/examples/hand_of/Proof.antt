@@ -1,16 +1,15 @@
--- `hand_of` goes over the slice from its first card to its last.
-use mathlib.Core.Path.{_≡_}
-use Prim.Native.Nat.{_-_}
+-- `hand_of` goes over the letters from the first to the last, two at a turn.
+use Prim.Native.Nat.{_≤_, _-_}
 use borrow.Author.Needs.{needs}
 use lib.ListN.{length}
 use Rattle.vectors.proofs.examples.hand_of.Statement.{statement}
 use Rattle.vectors.proofs.examples.hand_of.Tie as tie
 
 abbrev Inv-loop : tie.InvT-loop
-Inv-loop cards h₀ i₀ i-end h i = i-end ≡ length cards
+Inv-loop cards h₀ i₀ h i = i ≤ length cards
 
 abbrev μ-loop : tie.MeasureT-loop
-μ-loop cards h₀ i₀ i-end h i = i-end - i
+μ-loop cards h₀ i₀ h i = length cards - i
 
 empty-hand-requires : tie.Need-empty-hand-requires Inv-loop μ-loop
 empty-hand-requires c κs = search needs
@@ -18,8 +17,23 @@ empty-hand-requires c κs = search needs
 loop-holds : tie.Need-loop-holds Inv-loop μ-loop
 loop-holds c = search needs
 
-shared-slice-read-with-card : tie.Need-shared-slice-read-with-card Inv-loop μ-loop
-shared-slice-read-with-card c = search needs
+add-loop : tie.Need-add-loop Inv-loop μ-loop
+add-loop c = search needs
+
+shared-slice-read-if1 : tie.Need-shared-slice-read-if1 Inv-loop μ-loop
+shared-slice-read-if1 c = search needs
+
+shared-slice-read-card : tie.Need-shared-slice-read-card Inv-loop μ-loop
+shared-slice-read-card c = search needs
+
+add-card : tie.Need-add-card Inv-loop μ-loop
+add-card c = search needs
+
+shared-slice-read-card-2 : tie.Need-shared-slice-read-card-2 Inv-loop μ-loop
+shared-slice-read-card-2 c = search needs
+
+card-requires : tie.Need-card-requires Inv-loop μ-loop
+card-requires c κs = search needs
 
 with-card-requires : tie.Need-with-card-requires Inv-loop μ-loop
 with-card-requires c κs = search needs
@@ -44,7 +58,12 @@ hand-of-spec =
     μ-loop
     empty-hand-requires
     loop-holds
-    shared-slice-read-with-card
+    add-loop
+    shared-slice-read-if1
+    shared-slice-read-card
+    add-card
+    shared-slice-read-card-2
+    card-requires
     with-card-requires
     add-i
     loop-less
