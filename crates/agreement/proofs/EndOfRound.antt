@@ -10,6 +10,7 @@ use lib.ListN.{take, getD}
 use Rattle.lists.specs.Tests.{all}
 use Rattle.lists.proofs.Places.{view-map}
 use Rattle.lists.proofs.Differences.{Diff}
+use Rattle.lists.proofs.Tests.{cond-same}
 use Rattle.options.specs.declared.Options.{Options}
 use Rattle.table.specs.declared.Seat.{Seat}
 use Rattle.table.specs.declared.Shoe.{Shoe}
@@ -25,7 +26,7 @@ use Rattle.history.specs.Hands.{handsAfter}
 use Rattle.history.specs.Money.{lays, wins, laidEver, prizesEver, prizeOf, bought, cashed, ended, endedBy, purseOf}
 use Rattle.agreement.specs.Agrees.{SeatAgrees, CardsAgree, Good}
 use Rattle.agreement.proofs.Purse.{purse-law}
-use Rattle.agreement.proofs.Quiet.{cond-same, none-of}
+use Rattle.agreement.proofs.Quiet.{none-of}
 
 -- a call that ends a round and does nothing that another kind does
 pub record Ends (e : Entry) : Type 0 where

@@ -5,7 +5,7 @@ use mathlib.Core.List.{List, [], _∷_}
 use Prim.Native.Nat.{ℕ, _<_}
 use native.Mathlib.Nat.{add-zero}
 use native.Mathlib.Omega.{arith}
-use Rattle.lists.proofs.Tests.{all-at, or-eq-false}
+use Rattle.lists.proofs.Tests.{cond-same, all-at, or-eq-false}
 use lib.IntN.{pos}
 use lib.ListN.{length, getD}
 use borrow.Author.Tests.{not-true}
@@ -104,11 +104,6 @@ house e h =
   where
     none : (i : ℕ) → i < 14 → isKind (getD otherKinds i 0) e ≡ false
     none i l = none-of e otherKinds i h l
-
--- a test that picks one thing twice
-pub cond-same : {A : Type 0} (b : Bool) (x : A) → cond b x x ≡ x
-cond-same true x = refl
-cond-same false x = refl
 
 module _ (o : Options) (opening : List ℕ) (es : List Entry) (i : ℕ) (e : Entry) (q : House e) where
   hands-house : handsIn o opening (e ∷ es) i ≡ handsIn o opening es i

@@ -15,6 +15,6 @@ use Rattle.books.proofs.Steps.{step-kept}
 pub keeps : (t : Table) (c : Call) (order : List ℕ) → Keeps t c order
 unfolding number
 keeps t c order whole e =
-    let facts = sound-facts t (λ i h. whole .shaped .seats i h .four-places) (not-false (sound t) (whole .sound)) in
+    let facts = sound-facts t (not-false (sound t) (whole .sound)) in
     let (shaped, kept) = step-kept t c order (whole .shaped) facts e in
     record { shaped = shaped; sound = ap not (facts-sound _ (shaped .bank) kept) }

@@ -55,3 +55,17 @@ accepted-at ((n, b) ∷ cs) zero numbers e = accepted-head n b cs (ltb-true 0 n 
 accepted-at ((n, b) ∷ cs) (suc k) numbers e =
     let (here, later) = and-eq-true-iff (ltb 0 n) (all (λ c. ltb 0 (c .0)) cs) .0 numbers in
     accepted-at cs k later (accepted-tail n b cs (ltb-true 0 n here) e)
+
+-- conditions asked one list after the other: the first list's answer, or else the second's
+pub first-before : (cs rest : List Condition) (n : ℕ) → first cs ≡ n → (n ≡ 0 → ⊥) → first (cs ++ rest) ≡ n
+unfolding first
+first-before [] rest n e some = absurd (some (sym e))
+first-before ((m, true) ∷ cs) rest n e some = e
+first-before ((m, false) ∷ cs) rest n e some = first-before cs rest n e some
+
+pub first-behind : (cs rest : List Condition) → all (λ c. ltb 0 (c .0)) cs ≡ true → first cs ≡ 0 → first (cs ++ rest) ≡ first rest
+unfolding first all
+first-behind [] rest numbers e = refl
+first-behind ((m, true) ∷ cs) rest numbers e =
+    absurd (omega (arith, ltb-true 0 m (and-eq-true-iff (ltb 0 m) (all (λ c. ltb 0 (c .0)) cs) .0 numbers .0)))
+first-behind ((m, false) ∷ cs) rest numbers e = first-behind cs rest (and-eq-true-iff (ltb 0 m) (all (λ c. ltb 0 (c .0)) cs) .0 numbers .1) e

@@ -3,3 +3,4 @@ pub mod Opens
 pub mod Tray
 pub mod Loads
 pub mod Purses
+pub mod Accepted

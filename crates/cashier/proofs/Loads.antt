@@ -24,7 +24,7 @@ use Rattle.table.specs.Table.{withShoe, seatAt, isDealt, bankCards}
 use Rattle.table.specs.Faces.{outCards}
 use Rattle.table.specs.Shape.{Shaped}
 use Rattle.table.specs.Sound.{Sound}
-use Rattle.table.proofs.Facts.{decks-416}
+use Rattle.table.proofs.Facts.{decks-416, unbroken, sound-options}
 use Rattle.table.proofs.SeatChange.{sum-out}
 use Rattle.history.specs.Entry.{Entry, entry}
 use Rattle.history.specs.Cards.{cardsAfter}
@@ -32,7 +32,7 @@ use Rattle.agreement.specs.Agrees.{Good}
 use Rattle.agreement.proofs.Quiet.{house, house-seat}
 use Rattle.cashier.specs.Load.{loadConditions, loadEffect}
 
-valid-length : (decks : ℕ) (order : List ℕ) → validOrder decks order ≡ true → length order ≡ 52 * decks
+pub valid-length : (decks : ℕ) (order : List ℕ) → validOrder decks order ≡ true → length order ≡ 52 * decks
 unfolding validOrder
 valid-length decks order e =
     let both = and-eq-true-iff (eqb (length order) (52 * decks) && all (λ card. ltb card 52) order) _ .0 e in
@@ -105,6 +105,13 @@ unfolding loadConditions all
 load-may t order e =
     let at : (k : ℕ) → getD (loadConditions t order) k (0, false) .1 ≡ false = λ k. accepted-at (loadConditions t order) k refl e in
     (not-false (validOrder (t .options .decks) order) (at 1), at 2)
+
+-- an accepted load's order has room in the array
+pub load-fits : (t : Table) (order : List ℕ) → first (loadConditions t order) ≡ 0 → length order ≤ 416
+unfolding loadConditions all
+load-fits t order e =
+    let options = sound-options t (unbroken t (accepted-at (loadConditions t order) 0 refl e)) in
+    omega (arith, valid-length (t .options .decks) order (load-may t order e .0), options .decks-most)
 
 pub load-kept : (t : Table) (order : List ℕ) → Shaped t → Sound t → first (loadConditions t order) ≡ 0 → Shaped (loadEffect t order) × Sound (loadEffect t order)
 unfolding loadEffect

@@ -10,20 +10,21 @@ use borrow.Author.Tests.{eq-eqb, not-false}
 use Rattle.lists.specs.Sum.{sum}
 use Rattle.lists.specs.Tests.{all}
 use Rattle.lists.specs.Flat.{flat}
+use Rattle.call.specs.Refusal.{first}
 use Rattle.call.proofs.Refusals.{accepted-at}
 use Rattle.cards.specs.Card.{isAce}
 use Rattle.options.specs.declared.Options.{Options}
 use Rattle.options.specs.Ranges.{inRange}
 use Rattle.options.proofs.Facts.{in-range-facts}
 use Rattle.standing.specs.declared.seat_hand.SeatHand.{SeatHand}
-use Rattle.table.specs.Seat.{noSeat, noPlace, emptyPlace, laid, prizes}
+use Rattle.table.specs.Seat.{emptySeat, noSeat, noPlace, emptyPlace, laid, prizes}
 use Rattle.table.specs.Shoe.{validOrder}
 use Rattle.table.specs.Table.{seatAt, isDealt, up}
 use Rattle.table.specs.Shape.{Shaped, ShapedSeat}
 use Rattle.table.specs.Sound.{Sound, SoundSeat}
 use Rattle.agreement.specs.Agrees.{SeatAgrees, Agrees, Good}
-use Rattle.cashier.specs.Opening.{openConditions, openNumber, openTable, emptySeat, opened}
-use Rattle.cashier.proofs.Loads.{loaded, loaded-length}
+use Rattle.cashier.specs.Opening.{openConditions, openNumber, openTable, opened}
+use Rattle.cashier.proofs.Loads.{valid-length, loaded, loaded-length}
 
 empty-at : (i : ℕ) → i < 9 → getD (replicate 9 emptySeat) i noSeat ≡ emptySeat
 empty-at i h = getD-replicate 9 i emptySeat noSeat h
@@ -103,11 +104,21 @@ pub accepted-table : (o : Options) (order : List ℕ) → openNumber o order ≡
 unfolding opened
 accepted-table o order e = simp (eq-eqb (openNumber o order) 0 e)
 
-pub open-good : (o : Options) (order : List ℕ) → openNumber o order ≡ 0 → Good order [] (opened o order)
-unfolding openConditions openNumber all
-open-good o order e =
+open-may : (o : Options) (order : List ℕ) → first (openConditions o order) ≡ 0 → (inRange o ≡ true) × (validOrder (o .decks) order ≡ true)
+unfolding openConditions all
+open-may o order e =
     let at : (k : ℕ) → getD (openConditions o order) k (0, false) .1 ≡ false = λ k. accepted-at (openConditions o order) k refl e in
-    let range = not-false (inRange o) (at 0) in
-    let valid = not-false (validOrder (o .decks) order) (at 1) in
+    (not-false (inRange o) (at 0), not-false (validOrder (o .decks) order) (at 1))
+
+-- an accepted opening's order has room in the array
+pub open-fits : (o : Options) (order : List ℕ) → first (openConditions o order) ≡ 0 → length order ≤ 416
+open-fits o order e =
+    let (range, valid) = open-may o order e in
+    omega (arith, valid-length (o .decks) order valid, in-range-facts o range .decks-most)
+
+pub open-good : (o : Options) (order : List ℕ) → openNumber o order ≡ 0 → Good order [] (opened o order)
+unfolding openNumber
+open-good o order e =
+    let (range, valid) = open-may o order e in
     subst (Good order []) (sym (accepted-table o order e))
     (record { shaped = open-shaped o order range valid; sound = open-sound o order range valid; agrees = open-agrees o order range valid })

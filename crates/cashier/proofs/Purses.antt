@@ -9,6 +9,7 @@ use lib.ListN.{getD}
 use borrow.Author.Tests.{ltb-false, leb-false, eq-eqb, ne-eqb, not-false}
 use Rattle.lists.specs.Sum.{sum}
 use Rattle.lists.specs.Tests.{all}
+use Rattle.lists.proofs.Tests.{cond-same}
 use Rattle.call.specs.declared.At.{At}
 use Rattle.call.specs.declared.Call.the-variants.{Buy, Cash, Stake}
 use Rattle.call.specs.Refusal.{first}
@@ -31,11 +32,12 @@ use Rattle.history.specs.Hands.{handsAfter, decide, handsIn}
 use Rattle.history.specs.Money.{lays, wins, prizeOf}
 use Rattle.agreement.specs.Agrees.{SeatAgrees, Good}
 use Rattle.agreement.proofs.Purse.{purse-moves}
-use Rattle.agreement.proofs.Quiet.{cond-same, none-of}
+use Rattle.agreement.proofs.Quiet.{none-of}
 use Rattle.agreement.proofs.OneSeat.{one-call}
 use Rattle.cashier.specs.Buy.{buyConditions, buyEffect}
 use Rattle.cashier.specs.Cash.{cashConditions, cashEffect}
 use Rattle.cashier.specs.Stake.{stakeConditions, stakeEffect}
+use Rattle.cashier.proofs.Accepted.{buy-accepted, cash-accepted, stake-accepted}
 use Rattle.cashier.proofs.Loads.{no-hand}
 
 -- the seat with another purse and another stake, outside a round
@@ -173,12 +175,11 @@ unfolding buyConditions all
 buy-between t j n sound e =
     let at : (k : ℕ) → getD (buyConditions t j n) k (0, false) .1 ≡ false = λ k. accepted-at (buyConditions t j n) k refl e in
     let within = leb-false (t .options .seats) j (at 2) in
-    let most = ltb-false limit (allMoney t + n) (at 4) in
-    let most-seats = sound-options t sound .seats-most in
+    let (nine, most) = buy-accepted t j n e in
     record {
       within = within;
       none = at 1;
-      fits = sound .seats j (omega arith) .stake-fits;
+      fits = sound .seats j nine .stake-fits;
       pays = omega arith;
       in-limit = omega arith;
     }
@@ -209,13 +210,12 @@ unfolding cashConditions all
 cash-between t j n sound e =
     let at : (k : ℕ) → getD (cashConditions t j n) k (0, false) .1 ≡ false = λ k. accepted-at (cashConditions t j n) k refl e in
     let within = leb-false (t .options .seats) j (at 2) in
-    let enough = ltb-false (purse (seatAt t j)) n (at 4) in
-    let most-seats = sound-options t sound .seats-most in
+    let (nine, enough) = cash-accepted t j n e in
     let most = sound .money in
     record {
       within = within;
       none = at 1;
-      fits = sound .seats j (omega arith) .stake-fits;
+      fits = sound .seats j nine .stake-fits;
       pays = omega arith;
       in-limit = omega arith;
     }
@@ -252,7 +252,7 @@ stake-between t j n sound e =
     let within = leb-false (t .options .seats) j (at 2) in
     let unstaked = stake-none t j n e in
     let permitted = not-false (stakePermitted (t .options) n) (at 5) in
-    let enough = ltb-false (purse (seatAt t j)) n (at 6) in
+    let enough = stake-accepted t j n e .1 in
     let most = sound .money in
     record {
       within = within;

@@ -55,12 +55,15 @@ tray-agrees opening es t tray e q no-load a money =
       balance = omega (arith, a .balance, money);
     }
 
+-- an accepted fill keeps all money within the limit
+pub fill-within : (t : Table) (n : ℕ) → first (fillConditions t n) ≡ 0 → allMoney t + n ≤ limit
+unfolding fillConditions all
+fill-within t n e = ltb-false limit (allMoney t + n) (accepted-at (fillConditions t n) 3 refl e)
+
 pub fill-kept : (t : Table) (n : ℕ) → Shaped t → Sound t → first (fillConditions t n) ≡ 0 → Shaped (fillEffect t n) × Sound (fillEffect t n)
 unfolding fillConditions fillEffect all
 fill-kept t n shaped sound e =
-    let at : (k : ℕ) → getD (fillConditions t n) k (0, false) .1 ≡ false = λ k. accepted-at (fillConditions t n) k refl e in
-    let most = ltb-false limit (allMoney t + n) (at 3) in
-    (tray-shaped t (t .tray + n) shaped, tray-sound t (t .tray + n) sound (at 1) (omega arith))
+    (tray-shaped t (t .tray + n) shaped, tray-sound t (t .tray + n) sound (accepted-at (fillConditions t n) 1 refl e) (omega (arith, fill-within t n e)))
 
 pub fill-good : (opening : List ℕ) (es : List Entry) (t : Table) (n : ℕ) (order : List ℕ) → Good opening es t → first (fillConditions t n) ≡ 0
     → Good opening (entry (Fill n) order ∷ es) (fillEffect t n)
@@ -73,7 +76,8 @@ fill-good opening es t n order g e =
       agrees = tray-agrees opening es t (t .tray + n) (entry (Fill n) order) (house (entry (Fill n) order) refl) refl (g .agrees) (omega arith);
     }
 
-credit-enough : (t : Table) (n : ℕ) → first (creditConditions t n) ≡ 0 → (isDealt t ≡ false) × (n ≤ t .tray)
+-- an accepted credit is within the tray
+pub credit-enough : (t : Table) (n : ℕ) → first (creditConditions t n) ≡ 0 → (isDealt t ≡ false) × (n ≤ t .tray)
 unfolding creditConditions all
 credit-enough t n e =
     let at : (k : ℕ) → getD (creditConditions t n) k (0, false) .1 ≡ false = λ k. accepted-at (creditConditions t n) k refl e in

@@ -6,8 +6,9 @@ use Rattle.call.specs.Refusal.{Condition}
 use Rattle.table.specs.declared.Table.{Table}
 use Rattle.table.specs.Seat.{purse}
 use Rattle.table.specs.Table.{withSeat, seatAt, isDealt}
+use Rattle.table.specs.Money.{pastLimit}
 use Rattle.table.specs.Broken.{broken}
-use Rattle.cashier.specs.Between.{noSuchSeat, pastLimit, withPurse}
+use Rattle.cashier.specs.Between.{noSuchSeat, withPurse}
 
 unfoldable pub buyConditions : Table → ℕ → ℕ → List Condition
 buyConditions t j n = (1, broken t) ∷ (4, isDealt t) ∷ (8, noSuchSeat t j) ∷ (14, eqb n 0) ∷ (14, pastLimit t n) ∷ []

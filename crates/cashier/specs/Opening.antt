@@ -7,10 +7,9 @@ use lib.ListN.{replicate}
 use Rattle.call.specs.Refusal.{Condition, first}
 use Rattle.hands.specs.Hand.{emptyHand}
 use Rattle.options.specs.declared.Options.{Options}
-use Rattle.options.specs.Ranges.{inRange}
-use Rattle.table.specs.declared.Seat.{Seat}
+use Rattle.options.specs.Ranges.{inRange, noOptions}
 use Rattle.table.specs.declared.Table.{Table}
-use Rattle.table.specs.Seat.{money, makeSeat, noHands}
+use Rattle.table.specs.Seat.{emptySeat}
 use Rattle.table.specs.Shoe.{validOrder, newShoe}
 use Rattle.table.specs.Table.{makeTable}
 
@@ -18,33 +17,9 @@ use Rattle.table.specs.Table.{makeTable}
 unfoldable pub openConditions : Options → List ℕ → List Condition
 openConditions o order = (2, not (inRange o)) ∷ (3, not (validOrder (o .decks) order)) ∷ []
 
--- A seat with no money and no hand.
-abbrev pub emptySeat : Seat
-emptySeat = makeSeat (money 0 0 0) noHands
-
 -- An accepted opening: nine empty seats, a bank with no card, the order loaded.
 abbrev pub openTable : Options → List ℕ → Table
 openTable o order = makeTable o 0 (replicate 9 emptySeat) emptyHand (newShoe order)
-
--- No options.
-abbrev pub noOptions : Options
-noOptions =
-    record {
-      seats = 0;
-      decks = 0;
-      first = 0;
-      later = 0;
-      hands = 0;
-      aces = 0;
-      double = 0;
-      limit = 0;
-      insurance = 0;
-      five = 0;
-      prize = 0;
-      cut = 0;
-      smallest = 0;
-      largest = 0;
-    }
 
 -- A refused opening gives the empty table: no seats, cards or money.
 abbrev pub emptyTable : Table

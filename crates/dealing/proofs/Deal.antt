@@ -36,10 +36,10 @@ use Rattle.history.specs.Hands.{played, dealtHand, handsAfter, handsIn}
 use Rattle.history.specs.Money.{lays, wins, prizeOf, purseOf}
 use Rattle.agreement.specs.Agrees.{SeatAgrees, CardsAgree, Agrees, Good}
 use Rattle.agreement.proofs.Purse.{purse-moves}
-use Rattle.agreement.proofs.Quiet.{cond-same}
 use Rattle.dealing.specs.Burn.{firstBurn, laterBurn, burnAtDeal}
 use Rattle.dealing.specs.Deal.{stakedSeats, burnt, dealTakes, dealtSeats, upCard, dealConditions, dealEffect}
 use Rattle.lists.proofs.Parts.{sum-first, sum-before}
+use Rattle.lists.proofs.Tests.{cond-same}
 use Rattle.dealing.proofs.DealtSeat.{dealt-hands}
 use Rattle.dealing.proofs.DealSound.{Dealable, firstPlace, secondPlace, stakedBefore, firstOf, secondOf, dealtAt, past, no-hand-yet, staked-nine, dealt-either, laid-after, prizes-after, deal-money, deal-shaped, deal-sound}
 

@@ -10,13 +10,13 @@ use Rattle.lists.specs.Sum.{sum}
 use Rattle.lists.specs.Flat.{flat}
 use Rattle.lists.proofs.Places.{holds-set}
 use Rattle.hands.specs.Hand.{emptyHand, withCard}
-use Rattle.hands.specs.Length.{couldBePlayed}
-use Rattle.patterns.specs.PrizeHand.{isPrizeHand}
+use Rattle.totals.specs.Length.{couldBePlayed}
+use Rattle.prizes.specs.PrizeHand.{isPrizeHand}
 use Rattle.options.specs.declared.Options.{Options}
 use Rattle.standing.specs.declared.seat_hand.SeatHand.{SeatHand}
 use Rattle.standing.specs.SeatHand.{playedOf, dealt, notEnded}
-use Rattle.payment.specs.Wager.{wager}
-use Rattle.payment.specs.Prize.{prize}
+use Rattle.stakes.specs.Wager.{wager}
+use Rattle.stakes.specs.Prize.{prize}
 use Rattle.table.specs.declared.Seat.{Seat}
 use Rattle.table.specs.Seat.{noPlace, stake, insurance, hands, seatCards, laid, prizes}
 use Rattle.table.specs.Shape.{ShapedSeat}
@@ -89,7 +89,7 @@ module _ (s : Seat) (four : length (s .hands .places) ≡ 4) (a b : ℕ) where
           in-round = refl;
           staked = staked;
           within = omega arith;
-          each = λ p l. let here : p ≡ 0 = omega arith in rw (here, getD-set-same (s .hands .places) 0 (twoCards a b) noPlace (omega arith)) dealt-hand;
+          each = λ p l k. let here : p ≡ 0 = omega arith in rw (here, getD-set-same (s .hands .places) 0 (twoCards a b) noPlace (omega arith)) dealt-hand;
         };
         prizes-back = omega (arith, dealt-prizes o);
       }

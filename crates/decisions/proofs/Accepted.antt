@@ -13,8 +13,8 @@ use Rattle.lists.proofs.Tests.{first-inside, first-passes}
 use Rattle.cards.specs.Card.{isAce}
 use Rattle.options.proofs.Facts.{in-range-facts}
 use Rattle.standing.specs.SeatHand.{Played, playedOf, splitAces}
-use Rattle.standing.specs.Waits.{waits, acesWait, cardsWait}
-use Rattle.standing.specs.Turn.{seatWaits, turnSeat}
+use Rattle.waiting.specs.Waits.{waits, acesWait, cardsWait}
+use Rattle.turn.specs.Turn.{seatWaits, turnSeat}
 use Rattle.standing.proofs.Places.{many-hands, hand-at}
 use Rattle.call.specs.Refusal.{Condition, first}
 use Rattle.call.proofs.Refusals.{accepted-at}

@@ -11,17 +11,18 @@ use Rattle.lists.specs.Sum.{sum}
 use Rattle.lists.specs.Tests.{all}
 use Rattle.lists.proofs.Sums.{sum-snoc, sum-one}
 use Rattle.hands.specs.Hand.{cardsOf, withCard}
-use Rattle.hands.specs.Total.{total}
-use Rattle.hands.proofs.Bounds.{room-below-21, played-more, with-card-cards, with-card-count, with-card-full}
-use Rattle.patterns.proofs.PrizeTotal.{no-prize-below-21}
+use Rattle.totals.specs.Total.{total}
+use Rattle.hands.proofs.WithCard.{with-card-cards, with-card-count, with-card-full}
+use Rattle.totals.proofs.Bounds.{room-below-21, played-more}
+use Rattle.prizes.proofs.PrizeTotal.{no-prize-below-21}
 use Rattle.standing.specs.declared.seat_hand.SeatHand.{SeatHand}
 use Rattle.standing.specs.SeatHand.{Played, playedOf, splitAces, notEnded, byDouble, hasTwoCards}
-use Rattle.standing.specs.Turn.{waitingPlace}
-use Rattle.standing.specs.Waits.{waits}
+use Rattle.turn.specs.Turn.{waitingPlace}
+use Rattle.waiting.specs.Waits.{waits}
 use Rattle.permission.specs.Permits.{takesCards, permitsDraw, permitsDouble}
-use Rattle.payment.specs.Wager.{wager}
-use Rattle.payment.specs.Prize.{prize}
-use Rattle.payment.proofs.Bounds.{wager-single, wager-double, prize-none, prize-same, prize-most}
+use Rattle.stakes.specs.Wager.{wager}
+use Rattle.stakes.specs.Prize.{prize}
+use Rattle.stakes.proofs.Bounds.{wager-single, wager-double, prize-none, prize-same, prize-most}
 use Rattle.call.specs.declared.At.{At}
 use Rattle.call.specs.declared.Call.the-variants.{Draw, Double}
 use Rattle.call.specs.Refusal.{first}
@@ -107,7 +108,7 @@ module _ (t : Table) (e : Entry) (j more code : ℕ) (shaped : Shaped t) (sound 
   full = w .seat .shaped .twenty-cards (turnPlace t j) (omega arith)
 
   was : SoundHand (turnHand t j)
-  was = w .seat .playing .each (turnPlace t j) (w .here)
+  was = w .seat .playing .each (turnPlace t j) (w .here) (omega (arith, w .here, w .seat .few, w .seat .shaped .four-places))
 
   cards : cardsOf (grownHand t j code .hand) ≡ cardsOf (turnHand t j .hand) ++ (cardAhead t 0 ∷ [])
   cards = more-cards (turnHand t j) (cardAhead t 0) code full was (a .below)

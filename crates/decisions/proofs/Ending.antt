@@ -11,10 +11,10 @@ use Rattle.lists.specs.Sum.{sum}
 use Rattle.lists.specs.Tests.{any, all}
 use Rattle.lists.proofs.Tests.{any-not-at, or-eq-false}
 use Rattle.standing.specs.SeatHand.{Played, playedOf, byStand, byDouble, bySurrender, byEven, byFive, hasTwoCards}
-use Rattle.standing.specs.Turn.{seatWaits}
+use Rattle.turn.specs.Turn.{seatWaits}
 use Rattle.standing.proofs.Places.{many-hands}
-use Rattle.permission.specs.Permits.{permitsEven, permitsFive, seatDrew}
-use Rattle.payment.proofs.Bounds.{wager-single, prize-same}
+use Rattle.leaving.specs.Leaving.{permitsEven, permitsFive, seatDrew}
+use Rattle.stakes.proofs.Bounds.{wager-single, prize-same}
 use Rattle.call.specs.declared.At.{At}
 use Rattle.call.specs.declared.Call.the-variants.{Stand, Surrender, Even, Five}
 use Rattle.call.specs.Refusal.{Condition, first}
@@ -74,7 +74,7 @@ module _ (t : Table) (e : Entry) (j p code : ℕ) (d : Ending t e j p code) wher
       let s = seatAt t j in
       let h = placeOf s p in
       let new = endedBy h code in
-      let was = w .seat .playing .each p (w .here) in
+      let was = w .seat .playing .each p (w .here) (omega (arith, w .here, w .seat .few, w .seat .shaped .four-places)) in
       record {
         guest = d .guest;
         no-insure = plains .0;

@@ -12,7 +12,7 @@ use Rattle.cards.specs.Card.{isAce}
 use Rattle.options.specs.declared.Options.{Options}
 use Rattle.options.proofs.Facts.{in-range-facts}
 use Rattle.standing.specs.SeatHand.{Played}
-use Rattle.standing.specs.Turn.{waitingPlace}
+use Rattle.turn.specs.Turn.{waitingPlace}
 use Rattle.call.specs.Call.{kind, seat}
 use Rattle.history.specs.Entry.{Entry, isOf, isKind, isStake, isDeal, isInsure, isEnd, isLoad, isFill, isCredit, isBuy, isCash, amountOf}
 use Rattle.history.specs.Rounds.{stakeIn, insuranceIn, stakedBelow}

@@ -8,8 +8,8 @@ use Rattle.lists.specs.Sum.{sum}
 use Rattle.hands.specs.Hand.{cardsOf}
 use Rattle.standing.specs.declared.seat_hand.SeatHand.{SeatHand}
 use Rattle.standing.specs.SeatHand.{Played, playedOf}
-use Rattle.payment.specs.Wager.{wager}
-use Rattle.payment.specs.Prize.{prize}
+use Rattle.stakes.specs.Wager.{wager}
+use Rattle.stakes.specs.Prize.{prize}
 use Rattle.history.specs.Entry.{Entry, isInsure}
 use Rattle.history.specs.Cards.{Cards, callTakes}
 use Rattle.history.specs.Hands.{decide}

@@ -15,15 +15,15 @@ use Rattle.lists.proofs.Takes.{take-two}
 use Rattle.lists.proofs.Inserts.{two-for}
 use Rattle.cards.specs.Card.{rankOf, isAce}
 use Rattle.hands.specs.Hand.{cardsOf, withCard}
-use Rattle.hands.specs.Length.{couldBePlayed}
+use Rattle.totals.specs.Length.{couldBePlayed}
 use Rattle.patterns.specs.Pair.{isPair}
-use Rattle.patterns.proofs.PrizeTotal.{no-prize-of-two}
+use Rattle.prizes.proofs.PrizeTotal.{no-prize-of-two}
 use Rattle.options.proofs.Facts.{in-range-facts}
 use Rattle.standing.specs.declared.seat_hand.SeatHand.{SeatHand}
 use Rattle.standing.specs.SeatHand.{Played, playedOf}
-use Rattle.payment.specs.Wager.{wager}
-use Rattle.payment.specs.Prize.{prize}
-use Rattle.payment.proofs.Bounds.{wager-single, prize-none}
+use Rattle.stakes.specs.Wager.{wager}
+use Rattle.stakes.specs.Prize.{prize}
+use Rattle.stakes.proofs.Bounds.{wager-single, prize-none}
 use Rattle.call.specs.declared.At.{At}
 use Rattle.call.specs.declared.Call.the-variants.{Split}
 use Rattle.call.specs.Refusal.{first}

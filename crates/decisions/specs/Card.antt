@@ -4,7 +4,7 @@ use lib.ListN.{getD, set}
 use Rattle.hands.specs.Hand.{withCard}
 use Rattle.standing.specs.declared.seat_hand.SeatHand.{SeatHand}
 use Rattle.standing.specs.SeatHand.{playedOf}
-use Rattle.payment.specs.Prize.{prize}
+use Rattle.stakes.specs.Prize.{prize}
 use Rattle.table.specs.declared.Table.{Table}
 use Rattle.table.specs.Seat.{money, makeSeat, purse, stake, insurance}
 use Rattle.table.specs.Shoe.{drawn}

@@ -4,7 +4,7 @@ use mathlib.Core.List.{List, [], _∷_, _++_}
 use Prim.Native.Nat.{ℕ}
 use Rattle.call.specs.Refusal.{Condition}
 use Rattle.standing.specs.SeatHand.{byFive}
-use Rattle.permission.specs.Permits.{permitsFive}
+use Rattle.leaving.specs.Leaving.{permitsFive}
 use Rattle.table.specs.declared.Table.{Table}
 use Rattle.decisions.specs.Turn.{turnConditions, mayTake, endEffect}
 

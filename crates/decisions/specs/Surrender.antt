@@ -5,7 +5,7 @@ use Prim.Native.Nat.{ℕ}
 use Rattle.call.specs.Refusal.{Condition}
 use Rattle.cards.specs.Card.{isAce}
 use Rattle.standing.specs.SeatHand.{bySurrender}
-use Rattle.standing.specs.Turn.{seatWaits}
+use Rattle.turn.specs.Turn.{seatWaits}
 use Rattle.table.specs.declared.Table.{Table}
 use Rattle.table.specs.Seat.{hands}
 use Rattle.table.specs.Table.{withSeat, seatAt, up}

@@ -8,7 +8,7 @@ use Rattle.call.specs.Refusal.{Condition}
 use Rattle.options.specs.declared.Options.{Options}
 use Rattle.standing.specs.declared.seat_hand.SeatHand.{SeatHand}
 use Rattle.standing.specs.SeatHand.{Played, playedOf}
-use Rattle.standing.specs.Turn.{turnSeat, waitingPlace}
+use Rattle.turn.specs.Turn.{turnSeat, waitingPlace}
 use Rattle.table.specs.declared.Table.{Table}
 use Rattle.table.specs.Seat.{hands}
 use Rattle.table.specs.Table.{withSeat, seatAt, seatsHands, up}

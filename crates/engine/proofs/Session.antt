@@ -14,22 +14,23 @@ use Rattle.call.specs.declared.At.{At}
 use Rattle.call.specs.Refusal.{first}
 use Rattle.cards.specs.Points.{pointsOf}
 use Rattle.hands.specs.Hand.{withCard}
-use Rattle.hands.specs.Total.{total}
-use Rattle.hands.specs.Length.{couldBePlayed}
+use Rattle.totals.specs.Total.{total}
+use Rattle.totals.specs.Length.{couldBePlayed}
 use Rattle.patterns.specs.Natural.{isNatural}
 use Rattle.patterns.specs.Pair.{isPair}
-use Rattle.patterns.specs.PrizeHand.{allSevens, suitedSixSevenEight, isPrizeHand}
+use Rattle.prizes.specs.PrizeHand.{allSevens, suitedSixSevenEight, isPrizeHand}
 use Rattle.options.specs.declared.Options.{Options}
 use Rattle.options.specs.Ranges.{ranges, inRange}
 use Rattle.standing.specs.SeatHand.{natural, hasTwoCards}
 use Rattle.standing.specs.Open.{evenOpen, fiveOpen}
-use Rattle.standing.specs.Waits.{isTwoAces, acesWait, cardsWait, waits}
-use Rattle.standing.specs.Bank.{mustDraw}
-use Rattle.permission.specs.Permits.{permitsStand, takesCards, permitsDraw, permitsDouble, permitsSplit, permitsEven, permitsFive, seatDrew, permitsSurrender}
-use Rattle.payment.specs.Wager.{wager}
+use Rattle.waiting.specs.Waits.{isTwoAces, acesWait, cardsWait, waits}
+use Rattle.bank.specs.Bank.{mustDraw}
+use Rattle.permission.specs.Permits.{permitsStand, takesCards, permitsDraw, permitsDouble, permitsSplit}
+use Rattle.leaving.specs.Leaving.{permitsEven, permitsFive, seatDrew, permitsSurrender}
+use Rattle.stakes.specs.Wager.{wager}
 use Rattle.payment.specs.HandPay.{handBack, againstBank, againstNatural, byTotals}
 use Rattle.payment.specs.Insurance.{insurancePay}
-use Rattle.payment.specs.Prize.{prize}
+use Rattle.stakes.specs.Prize.{prize}
 use Rattle.table.specs.declared.Table.{Table}
 use Rattle.table.specs.Seat.{laid, prizes}
 use Rattle.table.specs.Shoe.{validOrder}

@@ -1,2 +1,2 @@
 -- Laws about hands that the layers above cite.
-pub mod Bounds
+pub mod WithCard

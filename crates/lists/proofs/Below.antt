@@ -1,9 +1,10 @@
 -- Laws of tests and sums over the numbers below a number.
-use mathlib.Core.Path.{_≡_, refl, ap, _∙_, sym}
-use mathlib.Core.Bool.{Bool, true, and-eq-true-iff}
+use mathlib.Core.Path.{_≡_, refl, ap, ap₂, _∙_, sym}
+use mathlib.Core.Bool.{Bool, true, false, _&&_, and-eq-true-iff, and-true, and-false}
 use mathlib.Core.List.{List, [], _∷_}
 use Prim.Native.Nat.{ℕ, zero, suc, _+_, _≤_, _<_}
 use native.Mathlib.Nat.{not-suc-le-zero, add-zero, add-suc}
+use native.Mathlib.Numerals.{add-one}
 use native.Mathlib.Decide.{decLe}
 use native.Mathlib.Omega.{arith}
 use lib.ListN.{length, getD}
@@ -27,6 +28,23 @@ pub below-all : (f : ℕ → Bool) (n : ℕ) → ((k : ℕ) → k < n → f k �
 unfolding allBelow
 below-all f zero h = refl
 below-all f (suc n) h = and-eq-true-iff (allBelow f n) (f n) .1 (below-all f n (λ k l. h k (omega arith)), h n (omega arith))
+
+-- one number more: where it fails not every one passes, and where it passes those below it decide
+below-one-more : (f : ℕ → Bool) (n : ℕ) → allBelow f (n + 1) ≡ allBelow f n && f n
+unfolding allBelow
+below-one-more f n = ap (allBelow f) (add-one n)
+
+pub below-fails : (f : ℕ → Bool) (n : ℕ) → f n ≡ false → allBelow f (n + 1) ≡ false
+below-fails f n e = below-one-more f n ∙ ap (λ (b : Bool). allBelow f n && b) e ∙ and-false (allBelow f n)
+
+pub below-passes : (f : ℕ → Bool) (n : ℕ) → f n ≡ true → allBelow f (n + 1) ≡ allBelow f n
+below-passes f n e = below-one-more f n ∙ ap (λ (b : Bool). allBelow f n && b) e ∙ and-true (allBelow f n)
+
+-- equal tests below decide the same
+pub all-below-same : (f g : ℕ → Bool) (n : ℕ) → ((k : ℕ) → k < n → f k ≡ g k) → allBelow f n ≡ allBelow g n
+unfolding allBelow
+all-below-same f g zero h = refl
+all-below-same f g (suc n) h = ap₂ _&&_ (all-below-same f g n (λ k l. h k (omega arith))) (h n (omega arith))
 
 -- equal numbers below have equal sums
 pub sum-below-same : (f g : ℕ → ℕ) (n : ℕ) → ((k : ℕ) → k < n → f k ≡ g k) → sumBelow f n ≡ sumBelow g n

@@ -8,3 +8,6 @@ pub mod Places
 pub mod Differences
 pub mod Inserts
 pub mod Parts
+pub mod Counts
+pub mod Flats
+pub mod Stores

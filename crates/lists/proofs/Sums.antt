@@ -1,16 +1,27 @@
 -- Laws of sums: over an appended, a mapped, a flattened and a changed list, and bounds from a bound on each element, by a number or by another sum.
 use mathlib.Core.Path.{_≡_, refl, _∙_, ap}
-use mathlib.Core.Bool.{Bool, false}
+use mathlib.Core.Bool.{Bool, false, _||_}
 use mathlib.Core.List.{List, [], _∷_, _++_, map}
-use Prim.Native.Nat.{ℕ, zero, suc, _+_, _*_, _≤_, _<_, suc-le-suc}
+use Prim.Native.Nat.{ℕ, zero, suc, _+_, _*_, _≤_, _<_, min, suc-le-suc}
+use native.Mathlib.Decide.{decLe}
 use native.Mathlib.Omega.{arith}
 use native.Mathlib.Nat.{le-of-suc-le-suc, not-suc-le-zero}
+use lib.Dec.{ltb}
 use lib.ListN.{length, take, getD, set}
 use lib.Seq.{take-suc}
+use borrow.Author.Tests.{lt-ltb, le-ltb}
 use Rattle.lists.specs.Sum.{sum}
 use Rattle.lists.specs.Tests.{any}
 use Rattle.lists.specs.Flat.{flat}
-use Rattle.lists.proofs.Tests.{or-eq-false}
+use Rattle.lists.proofs.Tests.{or-eq-false, ltb-same}
+
+-- of two numbers one is more than 0 exactly if their sum is
+some-plus : (a b : ℕ) → ltb 0 a || ltb 0 b ≡ ltb 0 (a + b)
+some-plus a b = go (decLe 1 a)
+  where
+    go : Dec (0 < a) → ltb 0 a || ltb 0 b ≡ ltb 0 (a + b)
+    go (yes h) = simp (lt-ltb 0 a h, lt-ltb 0 (a + b) (omega arith))
+    go (no h) = simp (le-ltb 0 a (omega arith)) (ltb-same 0 b 0 (a + b) (λ k. omega arith) (λ k. omega arith))
 
 module _ {A : Type 0} where
   pub sum-append : (f : A → ℕ) (xs ys : List A) → sum f (xs ++ ys) ≡ sum f xs + sum f ys
@@ -97,6 +108,23 @@ module _ {A : Type 0} where
   unfolding sum
   sum-none f [] d h = refl
   sum-none f (x ∷ xs) d h = omega (arith, h 0 (omega arith), sum-none f xs d (λ i k. h (suc i) (suc-le-suc k)))
+
+  -- each number cut at m: no more than the sum, and no less than the sum cut at m
+  pub sum-cut-most : (f : A → ℕ) (m : ℕ) (xs : List A) → sum (λ x. min (f x) m) xs ≤ sum f xs
+  unfolding sum
+  sum-cut-most f m [] = omega arith
+  sum-cut-most f m (x ∷ xs) = omega (arith, sum-cut-most f m xs)
+
+  pub sum-cut-least : (f : A → ℕ) (m : ℕ) (xs : List A) → min (sum f xs) m ≤ sum (λ x. min (f x) m) xs
+  unfolding sum
+  sum-cut-least f m [] = omega arith
+  sum-cut-least f m (x ∷ xs) = omega (arith, sum-cut-least f m xs)
+
+  -- some element passes exactly if the sum is more than 0, for a number that is more than 0 where the test passes
+  pub any-sum : (test : A → Bool) (f : A → ℕ) → ((x : A) → test x ≡ ltb 0 (f x)) → (xs : List A) → any test xs ≡ ltb 0 (sum f xs)
+  unfolding sum any
+  any-sum test f same [] = refl
+  any-sum test f same (x ∷ xs) = rw (same x, any-sum test f same xs) (some-plus (f x) (sum f xs))
 
 module _ {A B : Type 0} where
   pub sum-map : (f : B → ℕ) (g : A → B) (xs : List A) → sum f (map g xs) ≡ sum (λ x. f (g x)) xs

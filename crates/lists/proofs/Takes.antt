@@ -4,10 +4,11 @@ use mathlib.Core.List.{List, [], _∷_}
 use Prim.Native.Nat.{ℕ, _≤_, _<_, min}
 use native.Mathlib.Decide.{decLe}
 use native.Mathlib.Omega.{arith}
-use lib.Dec.{eqb}
+use lib.Dec.{ltb, eqb}
 use lib.ListN.{length, take, getD, length-take}
-use lib.Seq.{take-all, take-suc, length-take-le}
+use lib.Seq.{take-all, take-suc, take-take, length-take-le}
 use borrow.Author.Tests.{ne-eqb}
+use Rattle.lists.proofs.Tests.{ltb-same}
 
 module _ {A : Type 0} where
   -- a count past the list takes the whole list
@@ -18,6 +19,16 @@ module _ {A : Type 0} where
       go (yes h) = let same : m ≡ n = omega arith in ap (λ (k : ℕ). take k xs) same
       go (no h) = take-all m xs (omega arith) ∙ sym (take-all n xs (omega arith))
 
+  -- the first of the first ones: the lesser number of them
+  pub take-lesser : (n m : ℕ) (xs : List A) → take n (take m xs) ≡ take (min n m) xs
+  take-lesser n m xs = go (decLe n m)
+    where
+      go : Dec (n ≤ m) → take n (take m xs) ≡ take (min n m) xs
+      go (yes h) = let same : n ≡ min n m = omega arith in take-take n m xs h ∙ ap (λ (k : ℕ). take k xs) same
+      go (no h) =
+          let same : m ≡ min n m = omega arith in
+          take-all n (take m xs) (omega (arith, length-take m xs)) ∙ ap (λ (k : ℕ). take k xs) same
+
   -- below the list's length, a test of how many are taken is a test of the count
   pub count-taken : (xs : List A) (n k : ℕ) → k < length xs → eqb (length (take n xs)) k ≡ eqb n k
   count-taken xs n k h = go (decLe n (length xs))
@@ -25,6 +36,10 @@ module _ {A : Type 0} where
       go : Dec (n ≤ length xs) → eqb (length (take n xs)) k ≡ eqb n k
       go (yes le) = rw length-take-le
       go (no gt) = ne-eqb _ k (omega (arith, length-take n xs)) ∙ sym (ne-eqb n k (omega arith))
+
+  -- some are taken of a list that has some exactly if the count says some
+  pub some-taken : (xs : List A) (n : ℕ) → 0 < length xs → ltb 0 (length (take n xs)) ≡ ltb 0 n
+  some-taken xs n h = ltb-same 0 (length (take n xs)) 0 n (λ k. omega (arith, length-take n xs)) (λ k. omega (arith, length-take n xs))
 
   -- one, two and three elements, each by its place
   pub take-one : (xs : List A) (n : ℕ) (d : A) → n ≡ 1 → 0 < length xs → take n xs ≡ getD xs 0 d ∷ []

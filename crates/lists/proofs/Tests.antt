@@ -1,15 +1,21 @@
 -- Laws of tests: of `or` and `and`, and over a list: over an appended list, one element more, one element changed, and the element at a place.
 use mathlib.Core.Path.{_≡_, refl, sym, _∙_, ap}
-use mathlib.Core.Bool.{Bool, cond, true, false, not, _&&_, _||_, and-assoc, and-eq-true-iff, and-true, or-assoc, or-false, or-true, true≢false}
+use mathlib.Core.Bool.{Bool, cond, true, false, not, _&&_, _||_, and-assoc, and-eq-true-iff, and-true, and-false, or-assoc, or-false, or-true, true≢false}
 use mathlib.Core.List.{List, [], _∷_, _++_, foldl}
-use Prim.Native.Nat.{ℕ, zero, suc, _<_}
+use Prim.Native.Nat.{ℕ, zero, suc, _+_, _-_, _≤_, _<_}
+use native.Mathlib.Decide.{decLe}
 use native.Mathlib.Nat.{le-of-suc-le-suc, not-suc-le-zero}
 use native.Mathlib.Omega.{arith}
-use lib.Dec.{ltb, eqb, leb·suc-suc}
+use lib.Dec.{ltb, leb, eqb, leb·suc-suc}
 use lib.ListN.{length, take, getD, set}
 use lib.Seq.{take-suc}
-use borrow.Author.Tests.{lt-ltb, eqb-false, ne-eqb}
+use borrow.Author.Tests.{lt-ltb, le-ltb, le-leb, lt-leb, eqb-false, ne-eqb}
 use Rattle.lists.specs.Tests.{any, all, firstPlace}
+
+-- a test that picks one thing twice
+pub cond-same : {A : Type 0} (b : Bool) (x : A) → cond b x x ≡ x
+cond-same true x = refl
+cond-same false x = refl
 
 -- an `or` that fails: both parts fail
 pub or-eq-false : (a b : Bool) → a || b ≡ false → (a ≡ false) × (b ≡ false)
@@ -39,6 +45,34 @@ test-where a b e holds = or-other (not a) b e (ap not holds)
 pub where-test : (a b : Bool) → (a ≡ true → b ≡ true) → not a || b ≡ true
 where-test true b f = f refl
 where-test false b f = refl
+
+-- an order tested the other way round, and a difference compared as the sum is
+pub leb-not : (a b : ℕ) → leb a b ≡ not (ltb b a)
+leb-not a b = go (decLe a b)
+  where
+    go : Dec (a ≤ b) → leb a b ≡ not (ltb b a)
+    go (yes le) = le-leb a b le ∙ ap not (sym (le-ltb b a le))
+    go (no gt) = lt-leb a b (omega arith) ∙ ap not (sym (lt-ltb b a (omega arith)))
+
+pub leb-past : (a b c : ℕ) → b < a → leb (a - b) c ≡ leb a (b + c)
+leb-past a b c h = go (decLe a (b + c))
+  where
+    go : Dec (a ≤ b + c) → leb (a - b) c ≡ leb a (b + c)
+    go (yes le) = le-leb (a - b) c (omega arith) ∙ sym (le-leb a (b + c) le)
+    go (no gt) = lt-leb (a - b) c (omega arith) ∙ sym (lt-leb a (b + c) (omega arith))
+
+-- two orders that say the same test the same
+pub ltb-same : (a b c d : ℕ) → (a < b → c < d) → (c < d → a < b) → ltb a b ≡ ltb c d
+ltb-same a b c d there back = go (decLe (suc a) b)
+  where
+    go : Dec (a < b) → ltb a b ≡ ltb c d
+    go (yes h) = lt-ltb a b h ∙ sym (lt-ltb c d (there h))
+    go (no h) = let none : c < d → ⊥ = λ k. h (back k) in le-ltb a b (omega arith) ∙ sym (le-ltb c d (omega arith))
+
+-- a test that another one gives adds nothing to it
+pub and-given : (a b : Bool) → (b ≡ true → a ≡ true) → a && b ≡ b
+and-given a true h = ap (λ (x : Bool). x && true) (h refl)
+and-given a false h = and-false a
 
 -- a chain of `and` that holds: so does the test at each place of it
 fold-and : (b : Bool) (tests : List Bool) → foldl _&&_ b tests ≡ true → (b ≡ true) × ((k : ℕ) → getD tests k true ≡ true)

@@ -48,3 +48,23 @@ isEven n = eqb (n % 2) 0
 -- No option is outside its range (number 2), and both stakes are even.
 unfoldable pub inRange : Options → Bool
 inRange o = all within (ranges o) && isEven (o .smallest) && isEven (o .largest)
+
+-- No options: every value 0, which is outside the ranges. The empty table has these.
+abbrev pub noOptions : Options
+noOptions =
+    record {
+      seats = 0;
+      decks = 0;
+      first = 0;
+      later = 0;
+      hands = 0;
+      aces = 0;
+      double = 0;
+      limit = 0;
+      insurance = 0;
+      five = 0;
+      prize = 0;
+      cut = 0;
+      smallest = 0;
+      largest = 0;
+    }

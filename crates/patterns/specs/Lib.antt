@@ -1,4 +1,3 @@
--- Hands that the rules know by their cards: natural, pair and prize hand.
+-- Hands that the rules know by their cards: natural and pair.
 pub mod Natural
 pub mod Pair
-pub mod PrizeHand

@@ -1,4 +1,3 @@
-// Hands that the rules know by their cards (document 01, "Cards and totals" and "Payment"): natural, pair and prize hand.
+// Hands that the rules know by their cards (document 01, "Cards and totals"): natural and pair.
 pub mod natural;
 pub mod pair;
-pub mod prize_hand;

@@ -1,14 +1,14 @@
 -- Document 01, "Payment": net to the seat, per hand, first rule that fits. S is the stake, W the hand's wager.
-use mathlib.Core.Bool.{Bool, cond, _&&_}
+use mathlib.Core.Bool.{cond, _&&_}
 use Prim.Native.Nat.{ℕ, _+_, _-_, _*_, _/_}
 use lib.Dec.{ltb, eqb}
-use Rattle.hands.specs.Total.{total, isBust}
+use Rattle.totals.specs.Total.{total, isBust}
 use Rattle.options.specs.declared.Options.{Options}
-use Rattle.standing.specs.declared.bank.Score.{Score}
+use Rattle.bank.specs.declared.Score.{Score}
 use Rattle.standing.specs.SeatHand.{Played, natural, byDouble, bySurrender, byEven, byFive}
 use Rattle.payment.specs.declared.pay.Pay.{Pay}
 use Rattle.payment.specs.Pay.{pay}
-use Rattle.payment.specs.Wager.{wager}
+use Rattle.stakes.specs.Wager.{wager}
 
 -- What goes back where W lay and the net is +x, 0 or −x.
 abbrev pub plus : ℕ → ℕ → ℕ

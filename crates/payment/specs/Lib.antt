@@ -1,7 +1,4 @@
--- Payment, in document 01's order: wager, a hand's pay, insurance, prize, and the cover that the tray must hold.
-pub mod Wager
+-- Payment, in document 01's order: a hand's pay, and an insurance's.
 pub mod Pay
 pub mod HandPay
 pub mod Insurance
-pub mod Prize
-pub mod Cover

@@ -2,13 +2,13 @@
 ghost use mathlib.Core.Path.{_≡_};
 ghost use Prim.Native.Nat.{_*_, _≤_};
 ghost use Rattle.hands.specs.Hand.{cardsOf};
-ghost use Rattle.hands.specs.Total.{total as totalOf};
+ghost use Rattle.totals.specs.Total.{total as totalOf};
 ghost use Rattle.standing.specs.SeatHand.{playedOf};
 ghost use Rattle.payment.specs.HandPay.{byTotals, againstNatural, againstBank, handPay};
 use crate::pay::Pay;
-use crate::wager::wager;
+use bank::Score;
 use options::Options;
-use standing::bank::Score;
+use stakes::wager;
 use standing::seat_hand::BY_DOUBLE;
 use standing::seat_hand::BY_EVEN;
 use standing::seat_hand::BY_FIVE;
@@ -72,7 +72,7 @@ pub fn hand_pay(o: Options, bank: Score, stake: u32, h: SeatHand) -> Pay
     let laid = wager(stake, h);
     let s = stake as u64;
     let hand = h.hand;
-    let mine = hands::total::total(hand);
+    let mine = totals::total(hand);
     let ended = h.ended;
     let back = match ended {
         BY_SURRENDER => laid - s / 2,

@@ -2,7 +2,7 @@
 ghost use mathlib.Core.Path.{_≡_};
 ghost use Rattle.payment.specs.Insurance.{insurancePay};
 use crate::pay::Pay;
-use standing::bank::Score;
+use bank::Score;
 
 pub fn insurance_pay(bank: Score, insurance: u32) -> Pay
     ensures { λ r. ⌜ r ≡ insurancePay bank insurance ⌝ }

@@ -1,2 +1,2 @@
--- For each of the seven decisions whether the rules permit it, purse and shoe left aside.
+-- Whether the rules permit stand, draw, double and split, purse and shoe left aside.
 pub mod Permits

@@ -3,12 +3,12 @@ use mathlib.Core.Path.{refl}
 use Rattle.lists.specs.Sum.{sum}
 use Rattle.lists.specs.Tests.{any}
 use Rattle.cards.specs.Points.{pointsOf}
-use Rattle.hands.specs.Total.{total}
+use Rattle.totals.specs.Total.{total}
 use Rattle.patterns.specs.Natural.{isNatural}
 use Rattle.patterns.specs.Pair.{isPair}
 use Rattle.standing.specs.SeatHand.{natural}
-use Rattle.standing.specs.Bank.{mustDraw}
-use Rattle.payment.specs.Wager.{wager}
+use Rattle.bank.specs.Bank.{mustDraw}
+use Rattle.stakes.specs.Wager.{wager}
 use Rattle.payment.specs.HandPay.{handBack, againstBank, againstNatural, byTotals}
 use Rattle.payment.specs.Insurance.{insurancePay}
 use Rattle.rehearsed.specs.RehearsalHands.{RehearsalHands}

@@ -5,11 +5,11 @@ use mathlib.Core.List.{List, [], _∷_, _++_}
 use Prim.Native.Nat.{ℕ}
 use lib.IntN.{ℤ, pos, negℤ}
 use lib.ListN.{length, replicate}
-use Rattle.hands.specs.Total.{total}
+use Rattle.totals.specs.Total.{total}
 use Rattle.patterns.specs.Pair.{isPair}
 use Rattle.options.specs.declared.Options.{Options}
 use Rattle.standing.specs.SeatHand.{Played, natural, dealt, split, splitAces, notEnded, byDouble, bySurrender, byFive}
-use Rattle.standing.specs.Bank.{mustDraw, scoreOf}
+use Rattle.bank.specs.Bank.{mustDraw, scoreOf}
 use Rattle.payment.specs.Pay.{net}
 use Rattle.payment.specs.HandPay.{handPay}
 use Rattle.payment.specs.Insurance.{insurancePay}

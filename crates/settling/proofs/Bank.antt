@@ -14,9 +14,9 @@ use Rattle.lists.proofs.Picks.{cond-most}
 use Rattle.cards.specs.Card.{isAce, rankOf}
 use Rattle.cards.specs.Points.{pointsOf, pointsTable}
 use Rattle.cards.proofs.PointsLaws.{points-most}
-use Rattle.hands.specs.Total.{total, lowSum}
-use Rattle.hands.proofs.Bounds.{total-le}
-use Rattle.standing.specs.Bank.{mustDraw}
+use Rattle.totals.specs.Total.{total, lowSum}
+use Rattle.totals.proofs.Bounds.{total-le}
+use Rattle.bank.specs.Bank.{mustDraw}
 use Rattle.options.specs.declared.Options.{Options}
 use Rattle.history.specs.Cards.{Cards, makeCards, bankMore, bankTaken, bankFinal, closeBurns}
 use Rattle.settling.specs.BankDraw.{bankBurn, bankTakes}

@@ -19,8 +19,8 @@ use Rattle.call.specs.Refusal.{first}
 use Rattle.call.proofs.Refusals.{accepted-at}
 use Rattle.cards.specs.Card.{isAce}
 use Rattle.options.specs.declared.Options.{Options}
-use Rattle.standing.specs.Bank.{mustDraw, scoreOf}
-use Rattle.payment.specs.Wager.{wager}
+use Rattle.bank.specs.Bank.{mustDraw, scoreOf}
+use Rattle.stakes.specs.Wager.{wager}
 use Rattle.payment.specs.HandPay.{handPay}
 use Rattle.payment.specs.Insurance.{insurancePay}
 use Rattle.table.specs.declared.Seat.{Seat}

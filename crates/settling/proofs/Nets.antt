@@ -11,14 +11,14 @@ use borrow.Author.Tests.{ne-eqb}
 use Rattle.lists.specs.Sum.{sum}
 use Rattle.lists.proofs.Differences.{Diff, diff-pos, diff-add, diff-sub}
 use Rattle.options.specs.declared.Options.{Options}
-use Rattle.standing.specs.declared.bank.Score.{Score}
+use Rattle.bank.specs.declared.Score.{Score}
 use Rattle.standing.specs.SeatHand.{Played}
 use Rattle.payment.specs.declared.pay.Pay.{Pay}
-use Rattle.payment.specs.Wager.{wager}
+use Rattle.stakes.specs.Wager.{wager}
 use Rattle.payment.specs.Pay.{net}
 use Rattle.payment.specs.HandPay.{handPay}
 use Rattle.payment.specs.Insurance.{insurancePay}
-use Rattle.payment.proofs.Bounds.{seat-cover}
+use Rattle.cover.proofs.Bounds.{seat-cover}
 use Rattle.table.specs.declared.Seat.{Seat}
 use Rattle.table.specs.Seat.{stake, insurance, hands, laid, prizes, seatCover}
 use Rattle.table.specs.Sound.{SoundSeat}

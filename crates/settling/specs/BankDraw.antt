@@ -5,7 +5,7 @@ use Prim.Native.Nat.{ℕ, _+_, _-_}
 use lib.Dec.{eqb}
 use lib.ListN.{length, take, drop}
 use Rattle.options.specs.declared.Options.{Options}
-use Rattle.standing.specs.Bank.{mustDraw}
+use Rattle.bank.specs.Bank.{mustDraw}
 use Rattle.table.specs.declared.Table.{Table}
 use Rattle.table.specs.Table.{bankCards, tableShoe}
 

@@ -7,9 +7,9 @@ use Rattle.call.specs.Refusal.{Condition}
 use Rattle.call.specs.Answer.{Shown}
 use Rattle.hands.specs.Hand.{emptyHand}
 use Rattle.options.specs.declared.Options.{Options}
-use Rattle.standing.specs.declared.bank.Score.{Score}
-use Rattle.standing.specs.Bank.{mustDraw, scoreOf}
-use Rattle.standing.specs.Turn.{someWaits}
+use Rattle.bank.specs.declared.Score.{Score}
+use Rattle.bank.specs.Bank.{mustDraw, scoreOf}
+use Rattle.turn.specs.Turn.{someWaits}
 use Rattle.payment.specs.HandPay.{handPay}
 use Rattle.payment.specs.Insurance.{insurancePay}
 use Rattle.table.specs.declared.Seat.{Seat}

@@ -7,7 +7,7 @@ use lib.Dec.{ltb}
 use lib.IntN.{ℤ}
 use Rattle.call.specs.declared.PayLine.{PayLine}
 use Rattle.options.specs.declared.Options.{Options}
-use Rattle.standing.specs.declared.bank.Score.{Score}
+use Rattle.bank.specs.declared.Score.{Score}
 use Rattle.standing.specs.SeatHand.{Played}
 use Rattle.payment.specs.Pay.{net}
 use Rattle.payment.specs.HandPay.{handPay}

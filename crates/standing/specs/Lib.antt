@@ -1,6 +1,3 @@
--- How a hand stands: where it comes from, how it ended, whether it waits, whose turn it is, and how the bank stands.
+-- A hand in its seat: where it comes from, how it ended, and whether even and five are open to it.
 pub mod SeatHand
 pub mod Open
-pub mod Waits
-pub mod Turn
-pub mod Bank

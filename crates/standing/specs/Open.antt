@@ -4,7 +4,7 @@ use Prim.Native.Nat.{ℕ}
 use lib.Dec.{leb, eqb}
 use lib.ListN.{length}
 use Rattle.cards.specs.Card.{isAce, isTenValue}
-use Rattle.hands.specs.Total.{total}
+use Rattle.totals.specs.Total.{total}
 use Rattle.options.specs.declared.Options.{Options}
 use Rattle.standing.specs.SeatHand.{Played, natural}
 

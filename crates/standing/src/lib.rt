@@ -1,7 +1,4 @@
-// How a hand stands (document 01, "The seventeen calls"): whether it waits, and where in its seat the turn is.
+// A hand in its seat (document 01, "The history" and "The seventeen calls"): where it comes from, how it ended, which calls are open to it.
 // The rules take the up card, never the bank's hand; every code and every count is taken, also a damaged one.
-pub mod bank;
 pub mod open_calls;
 pub mod seat_hand;
-pub mod turn;
-pub mod waits;

@@ -30,7 +30,7 @@ pub fn five_open(o: Options, up: u8, h: SeatHand) -> bool
     if hand.count != 5 {
         return false;
     }
-    if 21 < hands::total::total(hand) {
+    if 21 < totals::total(hand) {
         return false;
     }
     !cards::is_ace(up)

@@ -1,5 +1,6 @@
 // A seat's hand: its cards, where it comes from and how it ended; and a seat's hands in their places.
 ghost use mathlib.Core.Path.{_≡_};
+ghost use Prim.Native.Nat.{min};
 ghost use Rattle.standing.specs.SeatHand.{playedOf, natural, hasTwoCards};
 use hands::hand::Hand;
 
@@ -33,6 +34,14 @@ pub struct SeatHand {
 pub struct SeatHands {
     pub places: [SeatHand; 4],
     pub many: usize,
+}
+
+// How many of the four places the seat uses: its count, and four where a damaged count says more.
+pub fn used(s: SeatHands) -> usize
+    ensures { λ r. ⌜ r ≡ min (s .many) 4 ⌝ }
+{
+    let many = s.many;
+    if many < 4 { many } else { 4 }
 }
 
 // Whether the hand has exactly two cards.

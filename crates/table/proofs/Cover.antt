@@ -6,7 +6,7 @@ use native.Mathlib.Omega.{arith}
 use Rattle.lists.specs.Sum.{sum}
 use Rattle.lists.proofs.Sums.{sum-at-most, sum-plus, sum-has}
 use Rattle.standing.proofs.Places.{many-hands}
-use Rattle.payment.proofs.Bounds.{seat-prizes}
+use Rattle.stakes.proofs.Bounds.{seat-prizes}
 use Rattle.table.specs.declared.Table.{Table}
 use Rattle.table.specs.Seat.{noSeat, stake, hands, prizes, seatCover}
 use Rattle.table.specs.Table.{seatAt, isDealt}

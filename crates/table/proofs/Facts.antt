@@ -1,14 +1,14 @@
 -- A table is sound where the facts of `Sound` hold, and only there. The arrays' lengths tie a count to what it counts.
 use mathlib.Core.Path.{_≡_, refl, _∙_}
 use mathlib.Core.Bool.{Bool, true, false, cond, not, _&&_, _||_, or-true, or-false}
-use mathlib.Core.List.{[], _∷_, _++_}
+use mathlib.Core.List.{List, [], _∷_, _++_}
 use Prim.Native.Nat.{ℕ, _+_, _*_, _≤_, _<_}
 use native.Mathlib.Decide.{decLe}
 use native.Mathlib.Omega.{arith}
 use lib.Dec.{ltb, leb, eqb}
 use lib.ListN.{length, take, getD, length-take, length-append, length-map, length-drop}
-use lib.Seq.{getD-take, length-take-le}
-use borrow.Author.Tests.{ltb-true, ltb-false, leb-true, eqb-true, lt-ltb, le-ltb, le-leb, eq-eqb, ne-eqb, not-true}
+use lib.Seq.{getD-take}
+use borrow.Author.Tests.{ltb-true, ltb-false, leb-true, leb-false, eqb-true, lt-ltb, le-ltb, le-leb, eq-eqb, ne-eqb, not-true, not-false}
 use Rattle.lists.specs.Sum.{count, sum}
 use Rattle.lists.specs.Tests.{all}
 use Rattle.lists.specs.Below.{allBelow}
@@ -16,7 +16,7 @@ use Rattle.lists.proofs.Tests.{and-at, or-other, or-unless, test-some, some-tes
 use Rattle.lists.proofs.Below.{all-below, below-all}
 use Rattle.cards.specs.Card.{isAce}
 use Rattle.hands.specs.Hand.{cardsOf}
-use Rattle.hands.specs.Length.{couldBePlayed}
+use Rattle.totals.specs.Length.{couldBePlayed}
 use Rattle.options.specs.declared.Options.{Options}
 use Rattle.options.specs.Ranges.{inRange}
 use Rattle.options.specs.Facts.{InRange}
@@ -30,7 +30,7 @@ use Rattle.table.specs.Shoe.{validOrder}
 use Rattle.table.specs.Table.{seatAt, isDealt, up, someStaked, tableOrder, tableDrawn, tableDiscards, handCards, bankCards, tableShoe, cardsLeft}
 use Rattle.table.specs.Money.{limit, allMoney, allPrizes, allCover}
 use Rattle.table.specs.Faces.{outCards}
-use Rattle.table.specs.Broken.{sound, soundShoe, soundFaces, soundBank, soundMoney, soundSeat, soundNumber, soundStake, soundInsurance, soundHands, soundPrizes, soundHand, insurancePermitted}
+use Rattle.table.specs.Broken.{broken, sound, soundShoe, soundFaces, soundBank, soundMoney, seatSound, soundSeat, soundNumber, soundStake, soundInsurance, soundHands, soundPrizes, soundHand, insurancePermitted}
 use Rattle.table.specs.Sound.{Sound, SoundSeat, SoundHand, Insured, Playing, Nothing}
 
 -- A hand.
@@ -73,88 +73,86 @@ unfolding soundNumber
 facts-number o i s f = or-unless (ltb i (o .seats)) _ (λ beyond. nothing-test s (f (ltb-false _ _ beyond)))
 
 -- An insurance.
-insurance-facts : (t : Table) (s : Seat) → soundInsurance t s ≡ true → 0 < insurance s → Insured (t .options) (isDealt t) (isAce (up t)) s
+insurance-facts : (o : Options) (dealt ace : Bool) (s : Seat) → soundInsurance o dealt ace s ≡ true → 0 < insurance s → Insured o dealt ace s
 unfolding soundInsurance
-insurance-facts t s e some =
-    let tests = isDealt t ∷ isAce (up t) ∷ isStaked s ∷ insurancePermitted (t .options) (stake s) (insurance s) ∷ [] in
+insurance-facts o dealt ace s e some =
+    let tests = dealt ∷ ace ∷ isStaked s ∷ insurancePermitted o (stake s) (insurance s) ∷ [] in
     let test = and-at tests (test-some (insurance s) _ e some) in
     record { in-round = test 0; ace-up = test 1; staked = ltb-true _ _ (test 2); permitted = test 3 }
 
-insured-test : (t : Table) (s : Seat) → Insured (t .options) (isDealt t) (isAce (up t)) s → isDealt t && isAce (up t) && isStaked s && insurancePermitted (t .options) (stake s) (insurance s) ≡ true
-insured-test t s f = simp (f .in-round, f .ace-up, lt-ltb _ _ (f .staked), f .permitted)
+insured-test : (o : Options) (dealt ace : Bool) (s : Seat) → Insured o dealt ace s → dealt && ace && isStaked s && insurancePermitted o (stake s) (insurance s) ≡ true
+insured-test o dealt ace s f = simp (f .in-round, f .ace-up, lt-ltb _ _ (f .staked), f .permitted)
 
-facts-insurance : (t : Table) (s : Seat) → (0 < insurance s → Insured (t .options) (isDealt t) (isAce (up t)) s) → soundInsurance t s ≡ true
+facts-insurance : (o : Options) (dealt ace : Bool) (s : Seat) → (0 < insurance s → Insured o dealt ace s) → soundInsurance o dealt ace s ≡ true
 unfolding soundInsurance
-facts-insurance t s f = some-test (insurance s) _ (λ some. insured-test t s (f some))
+facts-insurance o dealt ace s f = some-test (insurance s) _ (λ some. insured-test o dealt ace s (f some))
 
 -- The hands of a seat.
-waiting-facts : (t : Table) (s : Seat) → soundHands t s ≡ true → s .hands .many ≡ 0 → isDealt t ≡ true → stake s ≡ 0
+waiting-facts : (o : Options) (dealt : Bool) (s : Seat) → soundHands o dealt s ≡ true → s .hands .many ≡ 0 → dealt ≡ true → stake s ≡ 0
 unfolding soundHands
-waiting-facts t s e none round =
+waiting-facts o dealt s e none round =
     let idle : not (ltb 0 (stake s)) ≡ true = simp (none, round, or-false) at e in
     omega (arith, ltb-false 0 (stake s) (not-true _ idle))
 
-playing-facts : (t : Table) (s : Seat) → t .options .hands ≤ length (s .hands .places) → soundHands t s ≡ true → 0 < s .hands .many → Playing (t .options) (isDealt t) s
+playing-facts : (o : Options) (dealt : Bool) (s : Seat) → soundHands o dealt s ≡ true → 0 < s .hands .many → Playing o dealt s
 unfolding soundHands
-playing-facts t s room e some =
+playing-facts o dealt s e some =
     let n = s .hands .many in
-    let tests = ltb 0 n ∷ leb n (t .options .hands) ∷ isDealt t ∷ isStaked s ∷ all soundHand (take n (s .hands .places)) ∷ [] in
+    let tests = ltb 0 n ∷ leb n (o .hands) ∷ dealt ∷ isStaked s ∷ all soundHand (take n (s .hands .places)) ∷ [] in
     let test = and-at tests (simp (ne-eqb n 0 (λ none. omega arith)) at e) in
-    let within : n ≤ t .options .hands = leb-true _ _ (test 1) in
-    let many : length (take n (s .hands .places)) ≡ n = length-take-le n (s .hands .places) (omega arith) in
     record {
       in-round = test 2;
       staked = ltb-true _ _ (test 3);
-      within = within;
-      each = λ p h. hand-facts _ (rw getD-take at (all-at soundHand (take n (s .hands .places)) p noPlace (test 4) (omega arith)));
+      within = leb-true _ _ (test 1);
+      each = λ p h l. hand-facts _ (rw getD-take at (all-at soundHand (take n (s .hands .places)) p noPlace (test 4) (omega (arith, length-take n (s .hands .places)))));
     }
 
-each-test : (s : Seat) → ((p : ℕ) → p < s .hands .many → SoundHand (getD (s .hands .places) p noPlace)) → all soundHand (take (s .hands .many) (s .hands .places)) ≡ true
+each-test : (s : Seat) → ((p : ℕ) → p < s .hands .many → p < length (s .hands .places) → SoundHand (getD (s .hands .places) p noPlace)) → all soundHand (take (s .hands .many) (s .hands .places)) ≡ true
 each-test s f =
     at-all soundHand (take (s .hands .many) (s .hands .places)) noPlace (λ p h.
     let used : p < s .hands .many = omega (arith, length-take (s .hands .many) (s .hands .places)) in
-    rw getD-take (facts-hand _ (f p used)))
+    rw getD-take (facts-hand _ (f p used (omega (arith, length-take (s .hands .many) (s .hands .places))))))
 
-facts-hands : (t : Table) (s : Seat)
-    → (s .hands .many ≡ 0 → isDealt t ≡ true → stake s ≡ 0)
-    → (0 < s .hands .many → Playing (t .options) (isDealt t) s)
-    → soundHands t s ≡ true
+facts-hands : (o : Options) (dealt : Bool) (s : Seat)
+    → (s .hands .many ≡ 0 → dealt ≡ true → stake s ≡ 0)
+    → (0 < s .hands .many → Playing o dealt s)
+    → soundHands o dealt s ≡ true
 unfolding soundHands
-facts-hands t s waits plays = go (decLe (s .hands .many) 0)
+facts-hands o dealt s waits plays = go (decLe (s .hands .many) 0)
   where
-    idle : (b : Bool) → isDealt t ≡ b → s .hands .many ≡ 0 → isDealt t && isStaked s ≡ false
+    idle : (b : Bool) → dealt ≡ b → s .hands .many ≡ 0 → dealt && isStaked s ≡ false
     idle true round none = rw round (le-ltb 0 (stake s) (omega (arith, waits none round)))
     idle false round none = rw round
 
-    go : Dec (s .hands .many ≤ 0) → soundHands t s ≡ true
-    go (yes h) = let none : s .hands .many ≡ 0 = omega arith in simp (none, idle (isDealt t) refl none)
+    go : Dec (s .hands .many ≤ 0) → soundHands o dealt s ≡ true
+    go (yes h) = let none : s .hands .many ≡ 0 = omega arith in simp (none, idle dealt refl none)
     go (no h) =
         let f = plays (omega arith) in
         simp (f .in-round, lt-ltb _ _ (f .staked), le-leb _ _ (f .within), lt-ltb 0 (s .hands .many) (omega arith), each-test s (f .each), or-true)
 
 -- A seat.
-seat-facts : (t : Table) (i : ℕ) (s : Seat) → t .options .hands ≤ length (s .hands .places) → soundSeat t i s ≡ true → SoundSeat (t .options) (isDealt t) (isAce (up t)) i s
+seat-facts : (o : Options) (dealt ace : Bool) (i : ℕ) (s : Seat) → soundSeat o dealt ace i s ≡ true → SoundSeat o dealt ace i s
 unfolding soundSeat soundStake soundPrizes
-seat-facts t i s room e =
-    let tests = soundNumber (t .options) i s ∷ soundStake (t .options) s ∷ soundInsurance t s ∷ soundHands t s ∷ soundPrizes (t .options) s ∷ [] in
+seat-facts o dealt ace i s e =
+    let tests = soundNumber o i s ∷ soundStake o s ∷ soundInsurance o dealt ace s ∷ soundHands o dealt s ∷ soundPrizes o s ∷ [] in
     let test = and-at tests e in
     record {
-      beyond = number-facts (t .options) i s (test 0);
+      beyond = number-facts o i s (test 0);
       stake-fits = test-some (stake s) _ (test 1);
-      insured = insurance-facts t s (test 2);
-      waiting = waiting-facts t s (test 3);
-      playing = playing-facts t s room (test 3);
+      insured = insurance-facts o dealt ace s (test 2);
+      waiting = waiting-facts o dealt s (test 3);
+      playing = playing-facts o dealt s (test 3);
       prizes-back = leb-true _ _ (test 4);
     }
 
-facts-seat : (t : Table) (i : ℕ) (s : Seat) → SoundSeat (t .options) (isDealt t) (isAce (up t)) i s → soundSeat t i s ≡ true
+facts-seat : (o : Options) (dealt ace : Bool) (i : ℕ) (s : Seat) → SoundSeat o dealt ace i s → soundSeat o dealt ace i s ≡ true
 unfolding soundSeat soundStake soundPrizes
-facts-seat t i s f =
+facts-seat o dealt ace i s f =
     simp (
-      facts-number (t .options) i s (f .beyond),
+      facts-number o i s (f .beyond),
       some-test (stake s) _ (f .stake-fits),
-      facts-insurance t s (f .insured),
-      facts-hands t s (f .waiting) (f .playing),
+      facts-insurance o dealt ace s (f .insured),
+      facts-hands o dealt s (f .waiting) (f .playing),
       le-leb _ _ (f .prizes-back),
     )
 
@@ -176,15 +174,14 @@ facts-bank t twenty one f =
     let round : isDealt t ≡ true = lt-ltb 0 (length (bankCards t)) (omega (arith, length-take (t .bank .count) (t .bank .cards))) in
     simp (eq-eqb (t .bank .count) 1 (omega arith), f round))
 
-pub sound-facts : (t : Table) → ((i : ℕ) → i < 9 → length (seatAt t i .hands .places) ≡ 4) → sound t ≡ true → Sound t
+pub sound-facts : (t : Table) → sound t ≡ true → Sound t
 unfolding sound soundShoe soundFaces soundMoney
-sound-facts t four e =
-    let tests = inRange (t .options) ∷ soundShoe t ∷ soundFaces t ∷ allBelow (λ i. soundSeat t i (seatAt t i)) 9 ∷ soundBank t ∷ soundMoney t ∷ [] in
+sound-facts t e =
+    let tests = inRange (t .options) ∷ soundShoe t ∷ soundFaces t ∷ allBelow (seatSound t) 9 ∷ soundBank t ∷ soundMoney t ∷ [] in
     let test = and-at tests e in
     let shoe = and-at (validOrder (t .options .decks) (tableOrder t) ∷ leb (t .shoe .drawn) (52 * t .options .decks) ∷ leb (t .shoe .discarded) 416 ∷ []) (test 1) in
     let faces = and-at (allBelow (λ b. eqb (count b (outCards t)) (count b (tableDrawn t))) 256 ∷ eqb (length (outCards t)) (t .shoe .drawn) ∷ []) (test 2) in
     let money = and-at (leb (allMoney t) limit ∷ (not (isDealt t) || leb (allCover t) (t .tray + allPrizes t)) ∷ []) (test 5) in
-    let fits = in-range-facts (t .options) (test 0) .hands-most in
     record {
       options = test 0;
       valid = shoe 0;
@@ -192,7 +189,7 @@ sound-facts t four e =
       discarded = leb-true _ _ (shoe 2);
       faces = λ b h. eqb-true _ _ (all-below _ 256 b (faces 0) h);
       number = eqb-true _ _ (faces 1);
-      seats = λ i h. seat-facts t i (seatAt t i) (omega (arith, four i h)) (all-below (λ k. soundSeat t k (seatAt t k)) 9 i (test 3) h);
+      seats = λ i h. seat-facts (t .options) (isDealt t) (isAce (up t)) i (seatAt t i) (all-below (seatSound t) 9 i (test 3) h);
       bank = bank-facts t (test 4) .0;
       round = bank-facts t (test 4) .1;
       money = leb-true _ _ (money 0);
@@ -209,7 +206,7 @@ facts-sound t twenty f =
       le-leb _ _ (f .discarded),
       below-all (λ b. eqb (count b (outCards t)) (count b (tableDrawn t))) 256 (λ b h. eq-eqb _ _ (f .faces b h)),
       eq-eqb _ _ (f .number),
-      below-all (λ i. soundSeat t i (seatAt t i)) 9 (λ i h. facts-seat t i (seatAt t i) (f .seats i h)),
+      below-all (seatSound t) 9 (λ i h. facts-seat (t .options) (isDealt t) (isAce (up t)) i (seatAt t i) (f .seats i h)),
       facts-bank t twenty (f .bank) (f .round),
       le-leb _ _ (f .money),
       where-test (isDealt t) _ (λ round. le-leb _ _ (f .cover round)),
@@ -218,6 +215,13 @@ facts-sound t twenty f =
 -- What the facts give.
 pub sound-options : (t : Table) → Sound t → InRange (t .options)
 sound-options t f = in-range-facts (t .options) (f .options)
+
+-- what a table that is not broken gives; a seat of the option is one of the nine
+pub unbroken : (t : Table) → broken t ≡ false → Sound t
+unbroken t e = sound-facts t (not-false (sound t) e)
+
+pub seat-of-nine : (t : Table) (j : ℕ) → broken t ≡ false → leb (t .options .seats) j ≡ false → j < 9
+seat-of-nine t j e within = omega (arith, sound-options t (unbroken t e) .seats-most, leb-false (t .options .seats) j within)
 
 pub decks-416 : (t : Table) → Sound t → 52 * t .options .decks ≤ 416
 decks-416 t f = omega (arith, sound-options t f .decks-most)

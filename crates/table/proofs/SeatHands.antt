@@ -14,7 +14,7 @@ use Rattle.lists.proofs.Inserts.{two-for, take-two-for, length-two-for, sum-two
 use Rattle.standing.specs.declared.seat_hand.SeatHand.{SeatHand}
 use Rattle.standing.specs.SeatHand.{Played, playedOf}
 use Rattle.standing.proofs.Places.{many-hands, hand-at}
-use Rattle.payment.specs.Wager.{wager}
+use Rattle.stakes.specs.Wager.{wager}
 use Rattle.table.specs.declared.Money.{Money}
 use Rattle.table.specs.declared.Seat.{Seat}
 use Rattle.table.specs.Seat.{makeSeat, noPlace, stake, insurance, hands, seatCards, laid}
@@ -54,9 +54,10 @@ module _ (s : Seat) (p : ℕ) (shaped : ShapedSeat s) (few : s .hands .many ≤ 
           twenty-cards = λ q l. holds-set (λ n x. length (x .hand .cards) ≡ 20) (s .hands .places) p q h noPlace (omega (arith, shaped .four-places)) full (shaped .twenty-cards q l);
         }
 
-    pub each-with : ((q : ℕ) → q < s .hands .many → SoundHand (getD (s .hands .places) q noPlace)) → SoundHand h → (q : ℕ) → q < s .hands .many
-        → SoundHand (getD (set (s .hands .places) p h) q noPlace)
-    each-with each new q l = holds-set (λ n x. SoundHand x) (s .hands .places) p q h noPlace (omega (arith, shaped .four-places)) new (each q l)
+    pub each-with : ((q : ℕ) → q < s .hands .many → q < length (s .hands .places) → SoundHand (getD (s .hands .places) q noPlace)) → SoundHand h
+        → (q : ℕ) → q < s .hands .many → q < length (set (s .hands .places) p h) → SoundHand (getD (set (s .hands .places) p h) q noPlace)
+    each-with each new q l _ =
+        holds-set (λ n x. SoundHand x) (s .hands .places) p q h noPlace (omega (arith, shaped .four-places)) new (each q l (omega (arith, shaped .four-places)))
 
     pub sum-with : (f : Played → ℕ) → sum f (hands (with-hand s m p h)) + f (playedOf (getD (s .hands .places) p noPlace)) ≡ sum f (hands s) + f (playedOf h)
     sum-with f = rw (hands-with, ← hand-is) (sum-set f (hands s) p (playedOf h) (playedOf noPlace) (omega (arith, how-many)))
@@ -77,11 +78,11 @@ module _ (s : Seat) (p : ℕ) (shaped : ShapedSeat s) (few : s .hands .many ≤ 
               (holds-two-for (λ x. length (x .hand .cards) ≡ 20) (s .hands .places) p 4 a b noPlace (omega (arith, shaped .four-places)) (omega arith) full-a full-b (shaped .twenty-cards) q (omega arith));
         }
 
-    pub each-two : s .hands .many < 4 → ((q : ℕ) → q < s .hands .many → SoundHand (getD (s .hands .places) q noPlace)) → SoundHand a → SoundHand b → (q : ℕ) → q < s .hands .many + 1
-        → SoundHand (getD (take 4 (two-for (s .hands .places) p a b)) q noPlace)
-    each-two room each new-a new-b q l =
+    pub each-two : s .hands .many < 4 → ((q : ℕ) → q < s .hands .many → q < length (s .hands .places) → SoundHand (getD (s .hands .places) q noPlace)) → SoundHand a → SoundHand b
+        → (q : ℕ) → q < s .hands .many + 1 → q < length (take 4 (two-for (s .hands .places) p a b)) → SoundHand (getD (take 4 (two-for (s .hands .places) p a b)) q noPlace)
+    each-two room each new-a new-b q l _ =
         rw (getD-take 4 (two-for (s .hands .places) p a b) q noPlace (omega arith))
-        (holds-two-for SoundHand (s .hands .places) p (s .hands .many) a b noPlace (omega (arith, shaped .four-places)) here new-a new-b each q (omega arith))
+        (holds-two-for SoundHand (s .hands .places) p (s .hands .many) a b noPlace (omega (arith, shaped .four-places)) here new-a new-b (λ k m. each k m (omega (arith, shaped .four-places))) q (omega arith))
 
     pub sum-two : s .hands .many < 4 → (f : Played → ℕ) → sum f (hands (with-two s m p a b)) + f (playedOf (getD (s .hands .places) p noPlace)) ≡ sum f (hands s) + f (playedOf a) + f (playedOf b)
     sum-two room f = rw (hands-two room, ← hand-is) (sum-two-for f (hands s) p (playedOf a) (playedOf b) (playedOf noPlace) (omega (arith, how-many)))

@@ -8,7 +8,7 @@ use Rattle.lists.specs.Tests.{all}
 use Rattle.lists.specs.Below.{allBelow}
 use Rattle.cards.specs.Card.{isAce}
 use Rattle.hands.specs.Hand.{cardsOf}
-use Rattle.hands.specs.Length.{couldBePlayed}
+use Rattle.totals.specs.Length.{couldBePlayed}
 use Rattle.options.specs.declared.Options.{Options}
 use Rattle.options.specs.Ranges.{inRange, isEven}
 use Rattle.standing.specs.declared.seat_hand.SeatHand.{SeatHand}
@@ -40,22 +40,26 @@ soundNumber o i s = ltb i (o .seats) || (eqb (purse s) 0 && eqb (stake s) 0 && e
 unfoldable pub soundStake : Options → Seat → Bool
 soundStake o s = eqb (stake s) 0 || stakePermitted o (stake s)
 
-unfoldable pub soundInsurance : Table → Seat → Bool
-soundInsurance t s = eqb (insurance s) 0 || (isDealt t && isAce (up t) && isStaked s && insurancePermitted (t .options) (stake s) (insurance s))
+-- Here and below `dealt` says whether a round is dealt, and `ace` whether the up card is one.
+unfoldable pub soundInsurance : Options → Bool → Bool → Seat → Bool
+soundInsurance o dealt ace s = eqb (insurance s) 0 || (dealt && ace && isStaked s && insurancePermitted o (stake s) (insurance s))
 
 -- A seat has a hand exactly if a round is dealt and it has a stake; it has no more hands than the option gives, each of them sound.
-unfoldable pub soundHands : Table → Seat → Bool
-soundHands t s =
-    eqb (s .hands .many) 0 && not (isDealt t && isStaked s)
-    || ltb 0 (s .hands .many) && leb (s .hands .many) (t .options .hands) && isDealt t && isStaked s && all soundHand (take (s .hands .many) (s .hands .places))
+unfoldable pub soundHands : Options → Bool → Seat → Bool
+soundHands o dealt s =
+    eqb (s .hands .many) 0 && not (dealt && isStaked s)
+    || ltb 0 (s .hands .many) && leb (s .hands .many) (o .hands) && dealt && isStaked s && all soundHand (take (s .hands .many) (s .hands .places))
 
 -- A void can take a seat's prizes back: they are within its purse and what it laid.
 unfoldable pub soundPrizes : Options → Seat → Bool
 soundPrizes o s = leb (prizes o s) (purse s + laid s)
 
-unfoldable pub soundSeat : Table → ℕ → Seat → Bool
-soundSeat t i s =
-    soundNumber (t .options) i s && soundStake (t .options) s && soundInsurance t s && soundHands t s && soundPrizes (t .options) s
+-- The seat of number i.
+unfoldable pub soundSeat : Options → Bool → Bool → ℕ → Seat → Bool
+soundSeat o dealt ace i s = soundNumber o i s && soundStake o s && soundInsurance o dealt ace s && soundHands o dealt s && soundPrizes o s
+
+abbrev pub seatSound : Table → ℕ → Bool
+seatSound t i = soundSeat (t .options) (isDealt t) (isAce (up t)) i (seatAt t i)
 
 -- The order is valid, at most all of it is drawn, and there is room for every discard.
 unfoldable pub soundShoe : Table → Bool
@@ -75,7 +79,7 @@ soundMoney t = leb (allMoney t) limit && (not (isDealt t) || leb (allCover t) (t
 
 unfoldable pub sound : Table → Bool
 sound t =
-    inRange (t .options) && soundShoe t && soundFaces t && allBelow (λ i. soundSeat t i (seatAt t i)) 9 && soundBank t && soundMoney t
+    inRange (t .options) && soundShoe t && soundFaces t && allBelow (seatSound t) 9 && soundBank t && soundMoney t
 
 abbrev pub broken : Table → Bool
 broken t = not (sound t)

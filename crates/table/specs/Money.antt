@@ -1,5 +1,7 @@
 -- The money on the table, as sums over the seats.
+use mathlib.Core.Bool.{Bool}
 use Prim.Native.Nat.{ℕ, _+_}
+use lib.Dec.{ltb}
 use Rattle.lists.specs.Sum.{sum}
 use Rattle.table.specs.declared.Table.{Table}
 use Rattle.table.specs.Seat.{purse, laid, prizes, seatCover}
@@ -17,6 +19,10 @@ purses t = sum purse (t .seats)
 
 abbrev pub allMoney : Table → ℕ
 allMoney t = t .tray + layout t + purses t
+
+-- 14: money past 10^15, once so much more is on the table.
+abbrev pub pastLimit : Table → ℕ → Bool
+pastLimit t n = ltb limit (allMoney t + n)
 
 -- The prizes paid in this round, and what the tray must hold at the deal: 20 × all stakes.
 abbrev pub allPrizes : Table → ℕ

@@ -11,9 +11,9 @@ use Rattle.options.specs.declared.Options.{Options}
 use Rattle.standing.specs.declared.seat_hand.SeatHand.{SeatHand}
 use Rattle.standing.specs.declared.seat_hand.SeatHands.{SeatHands}
 use Rattle.standing.specs.SeatHand.{Played, handsOf, dealt, notEnded}
-use Rattle.payment.specs.Wager.{wager}
-use Rattle.payment.specs.Prize.{prize}
-use Rattle.payment.specs.Cover.{cover}
+use Rattle.stakes.specs.Wager.{wager}
+use Rattle.stakes.specs.Prize.{prize}
+use Rattle.cover.specs.Cover.{cover}
 use Rattle.table.specs.declared.Money.{Money}
 use Rattle.table.specs.declared.Seat.{Seat}
 
@@ -30,6 +30,10 @@ emptyPlace = record { hand = emptyHand; origin = dealt; ended = notEnded }
 
 abbrev pub noHands : SeatHands
 noHands = record { places = replicate 4 emptyPlace; many = 0 }
+
+-- A seat with no money and no hand.
+abbrev pub emptySeat : Seat
+emptySeat = makeSeat (money 0 0 0) noHands
 
 -- What stands where a seat has no such place, or the table no such seat.
 abbrev pub noPlace : SeatHand

@@ -6,7 +6,7 @@ use lib.ListN.{length, getD}
 use Rattle.lists.specs.Sum.{count}
 use Rattle.cards.specs.Card.{isAce}
 use Rattle.hands.specs.Hand.{cardsOf}
-use Rattle.hands.specs.Length.{couldBePlayed}
+use Rattle.totals.specs.Length.{couldBePlayed}
 use Rattle.options.specs.declared.Options.{Options}
 use Rattle.options.specs.Ranges.{inRange}
 use Rattle.standing.specs.declared.seat_hand.SeatHand.{SeatHand}
@@ -39,7 +39,7 @@ pub record Playing (o : Options) (dealt : Bool) (s : Seat) : Type 0 where
   pub in-round : dealt ≡ true
   pub staked : 0 < stake s
   pub within : s .hands .many ≤ o .hands
-  pub each : (p : ℕ) → p < s .hands .many → SoundHand (getD (s .hands .places) p noPlace)
+  pub each : (p : ℕ) → p < s .hands .many → p < length (s .hands .places) → SoundHand (getD (s .hands .places) p noPlace)
 
 -- A seat that holds nothing.
 pub record Nothing (s : Seat) : Type 0 where

@@ -1,12 +1,12 @@
 // Payment with a stake of 20 and an insurance of 10.
 use crate::lines::number;
 use crate::lines::pay;
+use bank::Score;
+use cover::cover;
 use options::Options;
-use payment::cover::cover;
 use payment::hand_pay::hand_pay;
 use payment::insurance::insurance_pay;
-use payment::prize::prize;
-use standing::bank::Score;
+use stakes::prize;
 use standing::seat_hand::SeatHand;
 
 pub fn of_hand(rule: u8, words: &[u8], o: Options, bank: Score, h: SeatHand) {

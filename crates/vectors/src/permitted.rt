@@ -1,12 +1,12 @@
 // Which decision the rules permit.
+use leaving::permits_even;
+use leaving::permits_five;
+use leaving::permits_surrender;
 use options::Options;
 use permission::permits_double;
 use permission::permits_draw;
-use permission::permits_even;
-use permission::permits_five;
 use permission::permits_split;
 use permission::permits_stand;
-use permission::permits_surrender;
 use standing::seat_hand::SeatHand;
 
 pub fn permits(rule: u8, o: Options, up: u8, many: usize, h: SeatHand) -> bool {

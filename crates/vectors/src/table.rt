@@ -3,6 +3,7 @@
 // Where a seat is asked, its four places stand at 16, 23, 30 and 37, and how each ended at 11 to 14.
 ghost use Prim.Native.Nat.{_≤_};
 ghost use mathlib.Core.Path.{_≡_};
+use crate::awaited;
 use crate::examples::card;
 use crate::examples::digit;
 use crate::examples::hand_of;
@@ -11,8 +12,7 @@ use crate::examples::seat_hand;
 use crate::lines::answer;
 use crate::paid;
 use crate::permitted::permits;
-use crate::waiting;
-use standing::bank::score_of;
+use bank::score_of;
 use standing::seat_hand::SeatHands;
 
 fn seat_of(row: &[u8], many: usize) -> SeatHands
@@ -42,9 +42,9 @@ fn example(row: &[u8])
     match rule {
         b'A'..=b'Z' => answer(words, permits(rule, o, up, many, h)),
         _ => {
-            waiting::of_hand(rule, words, o, up, many, h);
-            waiting::of_seat(rule, words, o, up, seat_of(row, many));
-            waiting::of_bank(rule, words, bank);
+            awaited::of_hand(rule, words, o, up, many, h);
+            awaited::of_seat(rule, words, o, up, seat_of(row, many));
+            awaited::of_bank(rule, words, bank);
             paid::of_hand(rule, words, o, score_of(bank), h);
         }
     }

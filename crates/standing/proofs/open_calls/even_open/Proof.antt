@@ -1,6 +1,6 @@
 -- The tests are the definition's, in its order.
 use borrow.Author.Tests.{not-true, not-false}
-use mathlib.Core.Path.{_≡_, sym, _∙_}
+use mathlib.Core.Path.{sym, _∙_}
 use Rattle.standing.specs.Open.{evenOpen}
 use borrow.Author.Needs.{needs}
 use Rattle.standing.proofs.open_calls.even_open.Statement.{statement}

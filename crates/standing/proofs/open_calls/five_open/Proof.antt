@@ -1,5 +1,5 @@
 -- The tests are the definition's, in its order; a damaged count above twenty is not five.
-use mathlib.Core.Path.{_≡_, sym, _∙_, ap}
+use mathlib.Core.Path.{_≡_, ap}
 use mathlib.Core.Bool.{not}
 use native.Mathlib.Omega.{arith}
 use lib.ListN.{length}

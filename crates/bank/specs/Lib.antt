@@ -1,0 +1,2 @@
+-- How the bank's cards stand.
+pub mod Bank

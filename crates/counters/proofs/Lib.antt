@@ -1,0 +1,2 @@
+-- Laws of counters.
+pub mod Tallies

@@ -1,0 +1,2 @@
+-- Counters for the values of a byte.
+pub mod Tally

@@ -1,0 +1,2 @@
+-- The law that the cover is enough, which the layers above cite.
+pub mod Bounds

@@ -1,0 +1,2 @@
+-- The cover that the tray must hold.
+pub mod Cover

@@ -1,0 +1,2 @@
+-- What a display reads of the whole table.
+pub mod Shown

@@ -1,0 +1,93 @@
+// What a display reads of the whole table, and whose turn it is. A broken table shows nothing.
+ghost use mathlib.Core.Path.{_≡_};
+ghost use Rattle.display.specs.Shown.{noTableShown, tableShown, nobodysTurn, turnShown};
+use blank::no_options;
+use broken::broken;
+use hands::hand::Hand;
+use hands::hand::empty_hand;
+use options::Options;
+use seats::round::cards_left;
+use sums::table_sums;
+use table::Table;
+use turns::some_waits;
+use turns::turn_place;
+use turns::turn_seat;
+
+// The options; the tray, all layout and all purses; how many cards are left, how many are discards, and the bank's cards.
+pub struct TableShown {
+    pub options: Options,
+    pub tray: u64,
+    pub layout: u64,
+    pub purses: u64,
+    pub left: usize,
+    pub discards: usize,
+    pub bank: Hand,
+}
+
+// The seat and place whose turn it is; both 0 where it is nobody's.
+pub struct TurnShown {
+    pub somebody: bool,
+    pub seat: usize,
+    pub place: usize,
+}
+
+fn no_table() -> TableShown
+    ensures { λ r. ⌜ r ≡ noTableShown ⌝ }
+{
+    TableShown {
+        options: no_options(),
+        tray: 0,
+        layout: 0,
+        purses: 0,
+        left: 0,
+        discards: 0,
+        bank: empty_hand(),
+    }
+}
+
+pub fn shown_table(t: Table) -> TableShown
+    ensures { λ r. ⌜ r ≡ tableShown t ⌝ }
+{
+    if broken(t) {
+        return no_table();
+    }
+    let sums = table_sums(t);
+    let options = t.options;
+    let shoe = t.shoe;
+    let bank = t.bank;
+    TableShown {
+        options,
+        tray: t.tray,
+        layout: sums.laid,
+        purses: sums.purses,
+        left: cards_left(t),
+        discards: shoe.discarded,
+        bank,
+    }
+}
+
+fn nobody() -> TurnShown
+    ensures { λ r. ⌜ r ≡ nobodysTurn ⌝ }
+{
+    TurnShown {
+        somebody: false,
+        seat: 0,
+        place: 0,
+    }
+}
+
+pub fn shown_turn(t: Table) -> TurnShown
+    ensures { λ r. ⌜ r ≡ turnShown t ⌝ }
+{
+    if broken(t) {
+        return nobody();
+    }
+    if !some_waits(t) {
+        return nobody();
+    }
+    TurnShown {
+        somebody: true,
+        seat: turn_seat(t),
+        place: turn_place(t),
+    }
+}

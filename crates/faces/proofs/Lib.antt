@@ -1,0 +1,3 @@
+-- Laws of counted cards and of valid orders.
+pub mod Counting
+pub mod Orders

@@ -1,0 +1,49 @@
+-- An order of another length is not valid; of an order of that length the counters of the faces decide.
+use mathlib.Core.Path.{_≡_, ap, _∙_}
+use mathlib.Core.List.{List}
+use Prim.Native.Nat.{ℕ, _*_}
+use native.Mathlib.Omega.{arith}
+use borrow.Author.Tests.{ne-eqb}
+use lib.ListN.{length}
+use Rattle.counters.specs.Tally.{tally}
+use Rattle.counters.proofs.Tallies.{room-zeros}
+use Rattle.table.specs.Shoe.{validOrder}
+use Rattle.faces.proofs.Orders.{faces-decide}
+use borrow.Author.Needs.{needs}
+use Rattle.faces.proofs.valid_order.Statement.{statement}
+use Rattle.faces.proofs.valid_order.Tie as tie
+
+mul-if1 : tie.Need-mul-if1
+mul-if1 c = search needs
+
+returns : tie.Need-returns
+unfolding validOrder
+returns c =
+    let start = c .before .before in
+    rw (ne-eqb (length (start .args .order .now)) (52 * start .args .decks) (λ e. omega arith))
+
+no-counts-requires : tie.Need-no-counts-requires
+no-counts-requires c κs = search needs
+
+count-requires : tie.Need-count-requires
+count-requires c κs =
+    let start = c .before .before .before .before in
+    let room = room-zeros (length (start .args .order .now)) (omega arith) in
+    rw (c .before .no-counts .ensures) room
+
+each-face-requires : tie.Need-each-face-requires
+each-face-requires c κs = search needs
+
+returns-2 : tie.Need-returns-2
+returns-2 c =
+    let start = c .before .before .before .before .before .before .before in
+    let filled = c .before .before in
+    let right : length (start .args .order .now) ≡ 52 * start .args .decks = omega arith in
+    c .each-face .ensures
+    ∙ faces-decide (start .args .decks) (start .args .order .now) _ right
+    (filled .count .ensures ∙ ap (λ (of : List ℕ). tally of (start .args .order .now)) (filled .before .before .no-counts .ensures))
+
+pub valid-order-spec : {M : Type 1} → statement M
+valid-order-spec =
+    tie.close
+    (tie.spec mul-if1 returns no-counts-requires count-requires each-face-requires returns-2)

@@ -1,0 +1,2 @@
+-- Cards counted by a function of the code.
+pub mod Counted

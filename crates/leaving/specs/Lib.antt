@@ -1,0 +1,2 @@
+-- Whether the rules permit even, five and surrender.
+pub mod Leaving

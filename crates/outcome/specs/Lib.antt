@@ -1,0 +1,2 @@
+-- What a call gives back.
+pub mod Outcome

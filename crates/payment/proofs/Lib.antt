@@ -1,2 +1,0 @@
--- Laws of payment that the layers above cite.
-pub mod Bounds

@@ -1,0 +1,2 @@
+-- Which hand wins the special prize.
+pub mod PrizeHand

@@ -1,0 +1,107 @@
+// buy and cash: a seat's purse up and down; stake: from purse to layout (document 01, "The seventeen calls").
+// Each number function asks its list's conditions in the list's order.
+ghost use mathlib.Core.Path.{_≡_};
+ghost use Rattle.call.specs.Refusal.{first};
+ghost use Rattle.outcome.specs.Outcome.{outcome};
+ghost use Rattle.cashier.specs.Between.{withPurse};
+ghost use Rattle.cashier.specs.Buy.{buyConditions, buyEffect};
+ghost use Rattle.cashier.specs.Cash.{cashConditions, cashEffect};
+use broken::broken;
+use call::At;
+use outcome::Outcome;
+use seats::round::is_dealt;
+use seats::seat::seat_of;
+use seats::seat::with_seat;
+use sums::past_limit;
+use table::Seat;
+use table::Table;
+
+fn with_purse(s: Seat, purse: u64) -> Seat
+    ensures { λ r. ⌜ r ≡ withPurse s purse ⌝ }
+{
+    let mut money = s.money;
+    money.purse = purse;
+    let mut next = s;
+    next.money = money;
+    next
+}
+
+fn buy_number(t: Table, at: At, n: u64) -> u8
+    ensures { λ r. ⌜ r ≡ first (buyConditions t (at .seat) n) ⌝ }
+{
+    let o = t.options;
+    if broken(t) {
+        return 1;
+    }
+    if is_dealt(t) {
+        return 4;
+    }
+    if o.seats <= at.seat {
+        return 8;
+    }
+    if n == 0 {
+        return 14;
+    }
+    if past_limit(t, n) {
+        return 14;
+    }
+    0
+}
+
+pub fn buy(t: Table, at: At, n: u64) -> Outcome
+    ensures { λ r. ⌜ r ≡ outcome (buyConditions t (at .seat) n) (buyEffect t (at .seat) n) t ⌝ }
+{
+    let number = buy_number(t, at, n);
+    if number != 0 {
+        return Outcome { number, table: t };
+    }
+    let j = at.seat as usize;
+    let s = seat_of(t, j);
+    let money = s.money;
+    let next = with_purse(s, money.purse + n);
+    Outcome {
+        number,
+        table: with_seat(t, j, next),
+    }
+}
+
+fn cash_number(t: Table, at: At, n: u64) -> u8
+    ensures { λ r. ⌜ r ≡ first (cashConditions t (at .seat) n) ⌝ }
+{
+    let o = t.options;
+    if broken(t) {
+        return 1;
+    }
+    if is_dealt(t) {
+        return 4;
+    }
+    if o.seats <= at.seat {
+        return 8;
+    }
+    if n == 0 {
+        return 14;
+    }
+    let s = seat_of(t, at.seat as usize);
+    let money = s.money;
+    if money.purse < n {
+        return 15;
+    }
+    0
+}
+
+pub fn cash(t: Table, at: At, n: u64) -> Outcome
+    ensures { λ r. ⌜ r ≡ outcome (cashConditions t (at .seat) n) (cashEffect t (at .seat) n) t ⌝ }
+{
+    let number = cash_number(t, at, n);
+    if number != 0 {
+        return Outcome { number, table: t };
+    }
+    let j = at.seat as usize;
+    let s = seat_of(t, j);
+    let money = s.money;
+    let next = with_purse(s, money.purse - n);
+    Outcome {
+        number,
+        table: with_seat(t, j, next),
+    }
+}

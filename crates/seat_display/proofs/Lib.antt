@@ -1,0 +1,2 @@
+-- What the tests of the display give.
+pub mod Such

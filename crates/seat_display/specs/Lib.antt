@@ -1,0 +1,2 @@
+-- What a display reads of a seat and of a hand.
+pub mod Shown

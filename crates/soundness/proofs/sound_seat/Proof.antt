@@ -1,0 +1,81 @@
+-- The tests are the definition's, in its order.
+use mathlib.Core.Path.{sym, _∙_}
+use borrow.Author.Needs.{needs}
+use Rattle.table.specs.Broken.{soundSeat}
+use Rattle.soundness.proofs.sound_seat.Statement.{statement}
+use Rattle.soundness.proofs.sound_seat.Tie as tie
+
+sound-number-requires : tie.Need-sound-number-requires
+sound-number-requires c κs = search needs
+
+sound-stake-requires : tie.Need-sound-stake-requires
+sound-stake-requires c κs = search needs
+
+sound-insurance-requires : tie.Need-sound-insurance-requires
+sound-insurance-requires c κs = search needs
+
+sound-hands-requires : tie.Need-sound-hands-requires
+sound-hands-requires c κs = search needs
+
+sound-prizes-requires : tie.Need-sound-prizes-requires
+sound-prizes-requires c κs = search needs
+
+returns : tie.Need-returns
+unfolding soundSeat
+returns c =
+    simp (
+      sym (c .before .before .before .before .before .before .before .before .sound-number .ensures) ∙ c .before .before .before .before .before .before .before .if1 .taken,
+      sym (c .before .before .before .before .before .before .sound-stake .ensures) ∙ c .before .before .before .before .before .if2 .taken,
+      sym (c .before .before .before .before .sound-insurance .ensures) ∙ c .before .before .before .if3 .taken,
+      sym (c .before .before .sound-hands .ensures) ∙ c .before .if4 .taken,
+      c .sound-prizes .ensures,
+    )
+
+returns-2 : tie.Need-returns-2
+unfolding soundSeat
+returns-2 c =
+    simp (
+      sym (c .before .before .before .before .before .before .before .sound-number .ensures) ∙ c .before .before .before .before .before .before .if1 .taken,
+      sym (c .before .before .before .before .before .sound-stake .ensures) ∙ c .before .before .before .before .if2 .taken,
+      sym (c .before .before .before .sound-insurance .ensures) ∙ c .before .before .if3 .taken,
+      sym (c .before .sound-hands .ensures) ∙ c .if4 .left,
+      c .if4 .left,
+    )
+
+returns-3 : tie.Need-returns-3
+unfolding soundSeat
+returns-3 c =
+    simp (
+      sym (c .before .before .before .before .before .sound-number .ensures) ∙ c .before .before .before .before .if1 .taken,
+      sym (c .before .before .before .sound-stake .ensures) ∙ c .before .before .if2 .taken,
+      sym (c .before .sound-insurance .ensures) ∙ c .if3 .left,
+      c .if3 .left,
+    )
+
+returns-4 : tie.Need-returns-4
+unfolding soundSeat
+returns-4 c =
+    simp (
+      sym (c .before .before .before .sound-number .ensures) ∙ c .before .before .if1 .taken,
+      sym (c .before .sound-stake .ensures) ∙ c .if2 .left,
+      c .if2 .left,
+    )
+
+returns-5 : tie.Need-returns-5
+unfolding soundSeat
+returns-5 c = simp (sym (c .before .sound-number .ensures) ∙ c .if1 .left, c .if1 .left)
+
+pub sound-seat-spec : {M : Type 1} → statement M
+sound-seat-spec =
+    tie.close
+    (tie.spec
+    sound-number-requires
+    sound-stake-requires
+    sound-insurance-requires
+    sound-hands-requires
+    sound-prizes-requires
+    returns
+    returns-2
+    returns-3
+    returns-4
+    returns-5)

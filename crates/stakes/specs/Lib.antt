@@ -1,0 +1,3 @@
+-- What follows from a stake: a hand's wager, and its prize.
+pub mod Wager
+pub mod Prize

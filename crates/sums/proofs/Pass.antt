@@ -1,0 +1,31 @@
+-- The pass over the seats: the sums of the first i seats with those of the next are the sums of the first i + 1, and have their bound.
+use mathlib.Core.Path.{_≡_, ap, _∙_}
+use mathlib.Core.List.{List}
+use Prim.Native.Nat.{ℕ, _+_, _<_}
+use native.Mathlib.Numerals.{add-one}
+use native.Mathlib.Omega.{arith}
+use lib.ListN.{length, take, getD}
+use Rattle.lists.proofs.Sums.{sum-take}
+use Rattle.options.specs.declared.Options.{Options}
+use Rattle.table.specs.declared.Seat.{Seat}
+use Rattle.table.specs.Seat.{noSeat, purse, laid, prizes, seatCover}
+use Rattle.sums.specs.declared.Sums.{Sums}
+use Rattle.sums.specs.Sums.{capped, sumsOver, seatSums, plusSums}
+use Rattle.sums.specs.Within.{Within}
+
+module _ (o : Options) (seats : List Seat) (i : ℕ) (h : i < length seats) where
+  one-more : plusSums (sumsOver o (take i seats)) (seatSums o (getD seats i noSeat)) ≡ sumsOver o (take (i + 1) seats)
+  one-more =
+      rw (
+        add-one i,
+        sum-take laid seats i noSeat,
+        sum-take (prizes o) seats i noSeat,
+        sum-take seatCover seats i noSeat,
+        sum-take (λ s. capped (purse s)) seats i noSeat,
+      )
+
+  pub next-seat : (a b : Sums) → a ≡ sumsOver o (take i seats) → b ≡ seatSums o (getD seats i noSeat) → plusSums a b ≡ sumsOver o (take (i + 1) seats)
+  next-seat a b first next = ap (λ (m : Sums). plusSums m b) first ∙ ap (plusSums (sumsOver o (take i seats))) next ∙ one-more
+
+pub within-more : (i : ℕ) (a b r : Sums) → Within i a → Within 1 b → r ≡ plusSums a b → Within (i + 1) r
+within-more i a b r few one e = rw e (record { laid = omega arith; prizes = omega arith; cover = omega arith; purses = omega arith })

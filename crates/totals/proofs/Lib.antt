@@ -1,0 +1,2 @@
+-- Laws about totals that the layers above cite.
+pub mod Bounds

@@ -1,0 +1,36 @@
+-- The number decides: the table as it was, or the effect.
+use mathlib.Core.Path.{sym, _∙_}
+use native.Mathlib.Omega.{arith}
+use borrow.Author.Needs.{needs}
+use Rattle.outcome.proofs.Laws.{refused, accepted}
+use Rattle.cashier.specs.Fill.{fillConditions, fillEffect}
+use Rattle.cashier.proofs.Tray.{fill-within}
+use Rattle.tray.proofs.fill.Statement.{statement}
+use Rattle.tray.proofs.fill.Tie as tie
+
+fill-number-requires : tie.Need-fill-number-requires
+fill-number-requires c κs = search needs
+
+returns : tie.Need-returns
+returns c =
+    let t = c .before .before .args .t in
+    let n = c .before .before .args .n in
+    refused (fillConditions t n) (fillEffect t n) t _ (c .before .fill-number .ensures) (c .if1 .taken)
+
+add-with-tray : tie.Need-add-with-tray
+add-with-tray c =
+    let start = c .before .before .before in
+    record { fits = omega (arith, fill-within (start .args .t) (start .args .n) (sym (c .before .before .fill-number .ensures) ∙ c .before .if1 .left)) }
+
+with-tray-requires : tie.Need-with-tray-requires
+with-tray-requires c κs = search needs
+
+returns-2 : tie.Need-returns-2
+unfolding fillEffect
+returns-2 c =
+    let t = c .before .before .before .before .args .t in
+    let n = c .before .before .before .before .args .n in
+    accepted (fillConditions t n) (fillEffect t n) t _ _ (c .before .before .before .fill-number .ensures) (c .before .before .if1 .left) (c .with-tray .ensures)
+
+pub fill-spec : {M : Type 1} → statement M
+fill-spec = tie.close (tie.spec fill-number-requires returns add-with-tray with-tray-requires returns-2)

@@ -1,0 +1,2 @@
+-- Whose turn it is.
+pub mod Turn

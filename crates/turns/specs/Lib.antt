@@ -1,0 +1,2 @@
+-- Whose turn it is at a table.
+pub mod Turns

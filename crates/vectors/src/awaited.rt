@@ -1,0 +1,32 @@
+// Which hand waits, and where in its seat the turn is.
+use crate::lines::answer;
+use crate::lines::number;
+use bank::must_draw;
+use hands::hand::Hand;
+use options::Options;
+use standing::seat_hand::SeatHand;
+use standing::seat_hand::SeatHands;
+use turn::seat_waits;
+use turn::waiting_place;
+use waiting::waits;
+
+pub fn of_hand(rule: u8, words: &[u8], o: Options, up: u8, many: usize, h: SeatHand) {
+    if rule == b'w' {
+        answer(words, waits(o, up, many, h));
+    }
+}
+
+pub fn of_seat(rule: u8, words: &[u8], o: Options, up: u8, s: SeatHands) {
+    match rule {
+        b'n' => number(words, waiting_place(o, up, s) as u64),
+        b'a' => answer(words, seat_waits(o, up, s)),
+        b'r' => answer(words, leaving::seat_drew(s)),
+        _ => {}
+    }
+}
+
+pub fn of_bank(rule: u8, words: &[u8], bank: Hand) {
+    if rule == b'b' {
+        answer(words, must_draw(bank));
+    }
+}

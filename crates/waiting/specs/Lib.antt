@@ -1,0 +1,2 @@
+-- Which hand waits.
+pub mod Waits
