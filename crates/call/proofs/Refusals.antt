@@ -69,3 +69,16 @@ first-behind [] rest numbers e = refl
 first-behind ((m, true) ∷ cs) rest numbers e =
     absurd (omega (arith, ltb-true 0 m (and-eq-true-iff (ltb 0 m) (all (λ c. ltb 0 (c .0)) cs) .0 numbers .0)))
 first-behind ((m, false) ∷ cs) rest numbers e = first-behind cs rest (and-eq-true-iff (ltb 0 m) (all (λ c. ltb 0 (c .0)) cs) .0 numbers .1) e
+
+-- a condition that holds answers; one that does not leaves the rest to answer, and as the last one gives 0
+pub first-here : (n : ℕ) (b : Bool) (rest : List Condition) → b ≡ true → first ((n, b) ∷ rest) ≡ n
+unfolding first
+first-here n b rest e = rw e
+
+pub first-next : (n : ℕ) (b : Bool) (rest : List Condition) → b ≡ false → first ((n, b) ∷ rest) ≡ first rest
+unfolding first
+first-next n b rest e = rw e
+
+pub first-last : (n : ℕ) (b : Bool) → b ≡ false → first ((n, b) ∷ []) ≡ 0
+unfolding first
+first-last n b e = rw e

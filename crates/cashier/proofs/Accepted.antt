@@ -18,24 +18,25 @@ use Rattle.table.specs.Table.{seatAt}
 use Rattle.table.specs.Money.{limit, allMoney}
 use Rattle.table.specs.Broken.{stakePermitted}
 use Rattle.table.proofs.Facts.{unbroken, sound-options, seat-of-nine}
+use Rattle.cashier.specs.Between.{betweenConditions}
 use Rattle.cashier.specs.Buy.{buyConditions}
 use Rattle.cashier.specs.Cash.{cashConditions}
 use Rattle.cashier.specs.Stake.{stakeConditions}
 
 pub buy-accepted : (t : Table) (j n : ℕ) → first (buyConditions t j n) ≡ 0 → (j < 9) × (allMoney t + n ≤ limit)
-unfolding buyConditions all
+unfolding buyConditions betweenConditions all
 buy-accepted t j n e =
     let at : (k : ℕ) → getD (buyConditions t j n) k (0, false) .1 ≡ false = λ k. accepted-at (buyConditions t j n) k refl e in
     (seat-of-nine t j (at 0) (at 2), ltb-false limit (allMoney t + n) (at 4))
 
 pub cash-accepted : (t : Table) (j n : ℕ) → first (cashConditions t j n) ≡ 0 → (j < 9) × (n ≤ purse (seatAt t j))
-unfolding cashConditions all
+unfolding cashConditions betweenConditions all
 cash-accepted t j n e =
     let at : (k : ℕ) → getD (cashConditions t j n) k (0, false) .1 ≡ false = λ k. accepted-at (cashConditions t j n) k refl e in
     (seat-of-nine t j (at 0) (at 2), ltb-false (purse (seatAt t j)) n (at 4))
 
 pub stake-accepted : (t : Table) (j n : ℕ) → first (stakeConditions t j n) ≡ 0 → (j < 9) × (n ≤ purse (seatAt t j)) × (n ≤ 1000000)
-unfolding stakeConditions stakePermitted all
+unfolding stakeConditions betweenConditions stakePermitted all
 stake-accepted t j n e =
     let at : (k : ℕ) → getD (stakeConditions t j n) k (0, false) .1 ≡ false = λ k. accepted-at (stakeConditions t j n) k refl e in
     let o = t .options in

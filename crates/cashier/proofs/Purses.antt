@@ -34,6 +34,7 @@ use Rattle.agreement.specs.Agrees.{SeatAgrees, Good}
 use Rattle.agreement.proofs.Purse.{purse-moves}
 use Rattle.agreement.proofs.Quiet.{none-of}
 use Rattle.agreement.proofs.OneSeat.{one-call}
+use Rattle.cashier.specs.Between.{betweenConditions}
 use Rattle.cashier.specs.Buy.{buyConditions, buyEffect}
 use Rattle.cashier.specs.Cash.{cashConditions, cashEffect}
 use Rattle.cashier.specs.Stake.{stakeConditions, stakeEffect}
@@ -171,7 +172,7 @@ module _ (opening : List ℕ) (es : List Entry) (t : Table) (e : Entry) (j p S c
       })
 
 buy-between : (t : Table) (j n : ℕ) → Sound t → first (buyConditions t j n) ≡ 0 → Between t j (purse (seatAt t j) + n) (stake (seatAt t j)) n 0
-unfolding buyConditions all
+unfolding buyConditions betweenConditions all
 buy-between t j n sound e =
     let at : (k : ℕ) → getD (buyConditions t j n) k (0, false) .1 ≡ false = λ k. accepted-at (buyConditions t j n) k refl e in
     let within = leb-false (t .options .seats) j (at 2) in
@@ -206,7 +207,7 @@ buy-good opening es t at n order g e =
     })
 
 cash-between : (t : Table) (j n : ℕ) → Sound t → first (cashConditions t j n) ≡ 0 → Between t j (purse (seatAt t j) - n) (stake (seatAt t j)) 0 n
-unfolding cashConditions all
+unfolding cashConditions betweenConditions all
 cash-between t j n sound e =
     let at : (k : ℕ) → getD (cashConditions t j n) k (0, false) .1 ≡ false = λ k. accepted-at (cashConditions t j n) k refl e in
     let within = leb-false (t .options .seats) j (at 2) in
@@ -242,11 +243,11 @@ cash-good opening es t at n order g e =
     })
 
 stake-none : (t : Table) (j n : ℕ) → first (stakeConditions t j n) ≡ 0 → stake (seatAt t j) ≤ 0
-unfolding stakeConditions all
+unfolding stakeConditions betweenConditions all
 stake-none t j n e = ltb-false 0 (stake (seatAt t j)) (accepted-at (stakeConditions t j n) 3 refl e)
 
 stake-between : (t : Table) (j n : ℕ) → Sound t → first (stakeConditions t j n) ≡ 0 → Between t j (purse (seatAt t j) - n) (n) 0 0
-unfolding stakeConditions all
+unfolding stakeConditions betweenConditions all
 stake-between t j n sound e =
     let at : (k : ℕ) → getD (stakeConditions t j n) k (0, false) .1 ≡ false = λ k. accepted-at (stakeConditions t j n) k refl e in
     let within = leb-false (t .options .seats) j (at 2) in

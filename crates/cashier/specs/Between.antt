@@ -1,15 +1,17 @@
 -- Conditions that calls share, each with the number that document 01 gives it.
 use mathlib.Core.Bool.{Bool}
+use mathlib.Core.List.{List, [], _∷_}
 use Prim.Native.Nat.{ℕ}
 use lib.Dec.{leb}
-use Rattle.table.specs.declared.Seat.{Seat}
+use Rattle.call.specs.Refusal.{Condition}
 use Rattle.table.specs.declared.Table.{Table}
-use Rattle.table.specs.Seat.{money, makeSeat, stake, insurance}
+use Rattle.table.specs.Table.{isDealt}
+use Rattle.table.specs.Broken.{broken}
 
 -- 8: no such seat.
 abbrev pub noSuchSeat : Table → ℕ → Bool
 noSuchSeat t j = leb (t .options .seats) j
 
--- The seat with another purse.
-abbrev pub withPurse : Seat → ℕ → Seat
-withPurse s p = makeSeat (money p (stake s) (insurance s)) (s .hands)
+-- 1, 4 a round is dealt, 8 no such seat: what buy, cash and stake ask first.
+unfoldable pub betweenConditions : Table → ℕ → List Condition
+betweenConditions t j = (1, broken t) ∷ (4, isDealt t) ∷ (8, noSuchSeat t j) ∷ []

@@ -149,7 +149,7 @@ module _ (t : Table) (e : Entry) (j more code : ℕ) (shaped : Shaped t) (sound 
         wager-grows = omega (arith, g .wager-is (playedOf new) refl, wager-single (stake s) (playedOf h) (λ b. omega arith));
         prize-grows = omega (arith, prize-none (t .options) (stake s) (playedOf h) (no-prize-below-21 (cardsOf (h .hand)) (a .below)));
         purse-pays = omega (arith, a .purse-has);
-        tray-pays = omega (arith, prize-most (t .options) (stake s) (playedOf new), tray-covers t shaped sound (w .seat .acting .dealt) j (nine t shaped sound j (w .seat .acting .within)));
+        tray-pays = omega (arith, prize-most (t .options) (stake s) (playedOf new), tray-covers t (shaped .nine-seats) sound (w .seat .acting .dealt) j (nine t shaped sound j (w .seat .acting .within)));
         draws = draws-some t 1 (a .left) (omega arith);
         takes = g .takes;
         cards-grow = λ v.

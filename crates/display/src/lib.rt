@@ -6,7 +6,7 @@ use broken::broken;
 use hands::hand::Hand;
 use hands::hand::empty_hand;
 use options::Options;
-use seats::round::cards_left;
+use round::cards_left;
 use sums::table_sums;
 use table::Table;
 use turns::some_waits;

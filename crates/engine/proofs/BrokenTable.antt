@@ -13,6 +13,7 @@ use Rattle.table.specs.Broken.{sound, broken}
 use Rattle.cashier.specs.Opening.{emptyTable}
 use Rattle.cashier.specs.Fill.{fillConditions}
 use Rattle.cashier.specs.Credit.{creditConditions}
+use Rattle.cashier.specs.Between.{betweenConditions}
 use Rattle.cashier.specs.Buy.{buyConditions}
 use Rattle.cashier.specs.Cash.{cashConditions}
 use Rattle.cashier.specs.Load.{loadConditions}
@@ -32,7 +33,7 @@ use Rattle.settling.specs.Close.{closeConditions}
 use Rattle.engine.specs.Step.{number}
 
 pub broken-one : (t : Table) → broken t ≡ true → (c : Call) (order : List ℕ) → number t c order ≡ 1
-unfolding number first fillConditions creditConditions buyConditions cashConditions stakeConditions dealConditions roundConditions insureConditions turnConditions drawConditions doubleConditions splitConditions surrenderConditions evenConditions fiveConditions closeConditions voidConditions loadConditions
+unfolding number first fillConditions creditConditions betweenConditions buyConditions cashConditions stakeConditions dealConditions roundConditions insureConditions turnConditions drawConditions doubleConditions splitConditions surrenderConditions evenConditions fiveConditions closeConditions voidConditions loadConditions
 broken-one t b (Fill n) order = simp b
 broken-one t b (Credit n) order = simp b
 broken-one t b (Buy at n) order = simp b

@@ -39,6 +39,7 @@ use Rattle.table.specs.Money.{layout, purses}
 use Rattle.table.specs.Broken.{stakePermitted, insurancePermitted, soundHand, soundNumber, soundStake, soundInsurance, soundHands, soundPrizes, soundSeat, soundShoe, soundFaces, soundBank, soundMoney, sound}
 use Rattle.cashier.specs.Opening.{openConditions, openNumber, opened}
 use Rattle.cashier.specs.Fill.{fillConditions, fillEffect}
+use Rattle.cashier.specs.Between.{betweenConditions}
 use Rattle.cashier.specs.Buy.{buyConditions, buyEffect}
 use Rattle.cashier.specs.Stake.{stakeConditions, stakeEffect}
 use Rattle.dealing.specs.Burn.{burnAtDeal}
@@ -99,5 +100,5 @@ pub session-rows : rows (opened house order) calls
     ∷ (0 ∷ 920 ∷ 0 ∷ 180 ∷ 43 ∷ [])
     ∷ (5 ∷ 920 ∷ 0 ∷ 180 ∷ 43 ∷ [])
     ∷ []
-unfolding house others marked order at row rows calls sum any all firstPlace allBelow anyBelow flat first pointsOf withCard total couldBePlayed isNatural isPair allSevens suitedSixSevenEight isPrizeHand ranges inRange natural hasTwoCards evenOpen fiveOpen isTwoAces acesWait cardsWait waits mustDraw permitsStand takesCards permitsDraw permitsDouble permitsSplit permitsEven permitsFive seatDrew permitsSurrender wager handBack againstBank againstNatural byTotals insurancePay prize laid prizes validOrder stakePermitted insurancePermitted soundHand soundNumber soundStake soundInsurance soundHands soundPrizes soundSeat soundShoe soundFaces soundBank soundMoney sound openConditions openNumber opened fillConditions fillEffect buyConditions buyEffect stakeConditions stakeEffect burnAtDeal pass dealTakes dealConditions dealtSeats upCard dealEffect anyDrew anyDecided roundConditions insureConditions insureEffect turnConditions endEffect cardEffect doubleConditions splitConditions splitEffect bankBurn bankTakes bankAtClose closeTakes closeConditions seatBack closeEffect number next
+unfolding house others marked order at row rows calls sum any all firstPlace allBelow anyBelow flat first pointsOf withCard total couldBePlayed isNatural isPair allSevens suitedSixSevenEight isPrizeHand ranges inRange natural hasTwoCards evenOpen fiveOpen isTwoAces acesWait cardsWait waits mustDraw permitsStand takesCards permitsDraw permitsDouble permitsSplit permitsEven permitsFive seatDrew permitsSurrender wager handBack againstBank againstNatural byTotals insurancePay prize laid prizes validOrder stakePermitted insurancePermitted soundHand soundNumber soundStake soundInsurance soundHands soundPrizes soundSeat soundShoe soundFaces soundBank soundMoney sound openConditions openNumber opened fillConditions fillEffect betweenConditions buyConditions buyEffect stakeConditions stakeEffect burnAtDeal pass dealTakes dealConditions dealtSeats upCard dealEffect anyDrew anyDecided roundConditions insureConditions insureEffect turnConditions endEffect cardEffect doubleConditions splitConditions splitEffect bankBurn bankTakes bankAtClose closeTakes closeConditions seatBack closeEffect number next
 session-rows = refl

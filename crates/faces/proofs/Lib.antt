@@ -1,3 +1,2 @@
--- Laws of counted cards and of valid orders.
-pub mod Counting
+-- Laws of valid orders.
 pub mod Orders

@@ -1,17 +1,15 @@
 // The cards of a table counted by byte value: whether an order is valid, and whether what is out is what was drawn.
 // Every value is taken, also a damaged one: a count past its array counts the whole array, as `take` does.
-mod parts;
-
 ghost use mathlib.Core.Path.{_≡_};
 ghost use Rattle.table.specs.Shoe.{validOrder};
 ghost use Rattle.table.specs.Broken.{soundShoe, soundFaces};
-use crate::parts::count_drawn;
-use crate::parts::count_out;
 use counters::count;
 use counters::each_face;
 use counters::no_counts;
 use counters::same_counts;
 use table::Table;
+use tallies::count_drawn;
+use tallies::count_out;
 
 // Whether the order has 52 × decks cards, each face as often as there are decks: then there is no room for any other byte.
 pub fn valid_order(decks: u8, order: &[u8]) -> bool

@@ -4,7 +4,7 @@ ghost use Rattle.call.specs.Refusal.{first};
 ghost use Rattle.decisions.specs.Round.{roundConditions};
 use broken::broken;
 use call::At;
-use seats::round::is_dealt;
+use round::is_dealt;
 use table::Table;
 
 pub fn round_number(t: Table, at: At) -> u8

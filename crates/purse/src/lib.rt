@@ -3,41 +3,23 @@
 ghost use mathlib.Core.Path.{_≡_};
 ghost use Rattle.call.specs.Refusal.{first};
 ghost use Rattle.outcome.specs.Outcome.{outcome};
-ghost use Rattle.cashier.specs.Between.{withPurse};
 ghost use Rattle.cashier.specs.Buy.{buyConditions, buyEffect};
 ghost use Rattle.cashier.specs.Cash.{cashConditions, cashEffect};
-use broken::broken;
+use between::between_number;
 use call::At;
 use outcome::Outcome;
-use seats::round::is_dealt;
-use seats::seat::seat_of;
-use seats::seat::with_seat;
+use seats::seat_of;
+use seats::with_purse;
+use seats::with_seat;
 use sums::past_limit;
-use table::Seat;
 use table::Table;
-
-fn with_purse(s: Seat, purse: u64) -> Seat
-    ensures { λ r. ⌜ r ≡ withPurse s purse ⌝ }
-{
-    let mut money = s.money;
-    money.purse = purse;
-    let mut next = s;
-    next.money = money;
-    next
-}
 
 fn buy_number(t: Table, at: At, n: u64) -> u8
     ensures { λ r. ⌜ r ≡ first (buyConditions t (at .seat) n) ⌝ }
 {
-    let o = t.options;
-    if broken(t) {
-        return 1;
-    }
-    if is_dealt(t) {
-        return 4;
-    }
-    if o.seats <= at.seat {
-        return 8;
+    let number = between_number(t, at);
+    if number != 0 {
+        return number;
     }
     if n == 0 {
         return 14;
@@ -68,15 +50,9 @@ pub fn buy(t: Table, at: At, n: u64) -> Outcome
 fn cash_number(t: Table, at: At, n: u64) -> u8
     ensures { λ r. ⌜ r ≡ first (cashConditions t (at .seat) n) ⌝ }
 {
-    let o = t.options;
-    if broken(t) {
-        return 1;
-    }
-    if is_dealt(t) {
-        return 4;
-    }
-    if o.seats <= at.seat {
-        return 8;
+    let number = between_number(t, at);
+    if number != 0 {
+        return number;
     }
     if n == 0 {
         return 14;

@@ -1,3 +1,46 @@
-// What the calls read of a table, a seat or a round at a time. Every value is taken, a damaged count too.
-pub mod round;
-pub mod seat;
+// The seats: reading and storing one, and whether it has a stake. Every value is taken, a damaged one too.
+ghost use mathlib.Core.Path.{_≡_};
+ghost use Prim.Native.Nat.{_<_};
+ghost use Rattle.table.specs.Seat.{isStaked, withPurse};
+ghost use Rattle.table.specs.Table.{seatAt, withSeat};
+use table::Seat;
+use table::Table;
+
+// The seat of that number.
+pub fn seat_of(t: Table, i: usize) -> Seat
+    requires { ⌜ i < 9 ⌝ }
+    ensures { λ r. ⌜ r ≡ seatAt t i ⌝ }
+{
+    t.seats[i]
+}
+
+// The table with that seat in place i; the table itself where it has no such place.
+pub fn with_seat(t: Table, i: usize, s: Seat) -> Table
+    ensures { λ r. ⌜ r ≡ withSeat t i s ⌝ }
+{
+    if 9 <= i {
+        return t;
+    }
+    let mut next = t;
+    next.seats[i] = s;
+    next
+}
+
+// Whether the seat has a stake.
+pub fn is_staked(s: Seat) -> bool
+    ensures { λ r. ⌜ r ≡ isStaked s ⌝ }
+{
+    let money = s.money;
+    0 < money.stake
+}
+
+// The seat with another purse.
+pub fn with_purse(s: Seat, purse: u64) -> Seat
+    ensures { λ r. ⌜ r ≡ withPurse s purse ⌝ }
+{
+    let mut money = s.money;
+    money.purse = purse;
+    let mut next = s;
+    next.money = money;
+    next
+}

@@ -1,3 +1,2 @@
--- Laws of the discards and of a new shoe that the loops cite.
-pub mod Discards
+-- Laws of a new shoe that its loop cites.
 pub mod Filled

@@ -1,17 +1,9 @@
-// Cards of the shoe and onto the discards.
+// Cards of the shoe: those ahead, so many drawn, and a new shoe.
 ghost use mathlib.Core.Path.{_≡_};
-ghost use mathlib.Core.List.{[], _∷_};
 ghost use Prim.Native.Nat.{_+_, _≤_};
 ghost use lib.ListN.{length, getD};
-ghost use Rattle.lists.specs.Flat.{flat};
-ghost use Rattle.hands.specs.Hand.{cardsOf};
-ghost use Rattle.standing.specs.SeatHand.{handsOf};
-ghost use Rattle.table.specs.Shoe.{newShoe, drawn, discard};
+ghost use Rattle.table.specs.Shoe.{newShoe, drawn};
 ghost use Rattle.shoe.specs.Empty.{noCards};
-use hands::hand::Hand;
-use hands::hand::held;
-use standing::seat_hand::SeatHands;
-use standing::seat_hand::used;
 use table::Shoe;
 
 // The card n behind the next one, or 0 past the array. Each test is of a number that does not wrap.
@@ -36,47 +28,6 @@ pub fn draw_cards(sh: Shoe, n: usize) -> Shoe
 {
     let mut next = sh;
     next.drawn = sh.drawn + n;
-    next
-}
-
-// The card becomes a discard, behind the others. Public for the calls alone, which discard only drawn cards of a sound table: so it asks for room.
-pub fn discard_card(sh: Shoe, card: u8) -> Shoe
-    requires { ⌜ sh .discarded + 1 ≤ 416 ⌝ }
-    ensures { λ r. ⌜ r ≡ discard sh (card ∷ []) ⌝ }
-{
-    let at = sh.discarded;
-    let mut next = sh;
-    next.discards[at] = card;
-    next.discarded = at + 1;
-    next
-}
-
-// The hand's cards become discards. Public for the calls alone, and it asks for room as one card does.
-pub fn discard_hand(sh: Shoe, h: Hand) -> Shoe
-    requires { ⌜ sh .discarded + length (cardsOf h) ≤ 416 ⌝ }
-    ensures { λ r. ⌜ r ≡ discard sh (cardsOf h) ⌝ }
-{
-    let n = held(h);
-    let mut next = sh;
-    for i in 0usize..n {
-        let card = h.cards[i];
-        next = discard_card(next, card);
-    }
-    next
-}
-
-// The cards of a seat's hands become discards, by place. Public for the calls alone, and it asks for room as one card does.
-pub fn discard_hands(sh: Shoe, s: SeatHands) -> Shoe
-    requires { ⌜ sh .discarded + length (flat (λ h. h .cards) (handsOf s)) ≤ 416 ⌝ }
-    ensures { λ r. ⌜ r ≡ discard sh (flat (λ h. h .cards) (handsOf s)) ⌝ }
-{
-    let n = used(s);
-    let mut next = sh;
-    for place in 0usize..n {
-        let h = s.places[place];
-        let hand = h.hand;
-        next = discard_hand(next, hand);
-    }
     next
 }
 

@@ -50,8 +50,8 @@ fn sound_prizes(o: Options, s: Seat) -> bool
     ensures { λ r. ⌜ r ≡ soundPrizes o s ⌝ }
 {
     let m = s.money;
-    let prizes = seats::seat::prizes(o, s);
-    prizes <= m.purse || prizes - m.purse <= seats::seat::laid(s)
+    let prizes = seat_money::prizes(o, s);
+    prizes <= m.purse || prizes - m.purse <= seat_money::laid(s)
 }
 
 pub fn sound_seat(o: Options, dealt: bool, ace: bool, i: usize, s: Seat) -> bool

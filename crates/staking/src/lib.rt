@@ -6,13 +6,12 @@ ghost use Rattle.outcome.specs.Outcome.{outcome};
 ghost use Rattle.table.specs.Seat.{purse, makeSeat, money as moneyOf, insurance};
 ghost use Rattle.cashier.specs.Stake.{stakeConditions, stakeEffect};
 use amounts::stake_permitted;
-use broken::broken;
+use between::between_number;
 use call::At;
 use outcome::Outcome;
-use seats::round::is_dealt;
-use seats::seat::is_staked;
-use seats::seat::seat_of;
-use seats::seat::with_seat;
+use seats::is_staked;
+use seats::seat_of;
+use seats::with_seat;
 use table::Seat;
 use table::Table;
 
@@ -33,14 +32,9 @@ fn stake_number(t: Table, at: At, n: u64) -> u8
     ensures { λ r. ⌜ r ≡ first (stakeConditions t (at .seat) n) ⌝ }
 {
     let o = t.options;
-    if broken(t) {
-        return 1;
-    }
-    if is_dealt(t) {
-        return 4;
-    }
-    if o.seats <= at.seat {
-        return 8;
+    let number = between_number(t, at);
+    if number != 0 {
+        return number;
     }
     let s = seat_of(t, at.seat as usize);
     let money = s.money;

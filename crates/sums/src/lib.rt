@@ -7,8 +7,8 @@ ghost use Rattle.sums.specs.Sums.{capped, seatSums, plusSums, tableSums}
 ghost use Rattle.sums.specs.Within.{Within};
 use cover::cover;
 use options::Options;
-use seats::seat::laid;
-use seats::seat::prizes;
+use seat_money::laid;
+use seat_money::prizes;
 use table::Seat;
 use table::Table;
 

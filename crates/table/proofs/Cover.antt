@@ -3,30 +3,35 @@ use mathlib.Core.Path.{_≡_}
 use mathlib.Core.Bool.{true}
 use Prim.Native.Nat.{ℕ, _+_, _*_, _≤_, _<_}
 use native.Mathlib.Omega.{arith}
+use lib.ListN.{length}
 use Rattle.lists.specs.Sum.{sum}
 use Rattle.lists.proofs.Sums.{sum-at-most, sum-plus, sum-has}
-use Rattle.standing.proofs.Places.{many-hands}
+use Rattle.cards.specs.Card.{isAce}
 use Rattle.stakes.proofs.Bounds.{seat-prizes}
 use Rattle.table.specs.declared.Table.{Table}
 use Rattle.table.specs.Seat.{noSeat, stake, hands, prizes, seatCover}
-use Rattle.table.specs.Table.{seatAt, isDealt}
+use Rattle.table.specs.Table.{seatAt, isDealt, up}
 use Rattle.table.specs.Money.{allCover}
-use Rattle.table.specs.Shape.{Shaped}
 use Rattle.table.specs.Sound.{Sound}
+use Rattle.table.proofs.Facts.{sound-options, few-hands}
 
-module _ (t : Table) (shaped : Shaped t) where
+module _ (t : Table) (full : length (t .seats) ≡ 9) (sound : Sound t) where
+  -- no seat has more hands than the option gives, so each seat's prizes are far below its cover
+  few : (i : ℕ) → i < 9 → length (hands (seatAt t i)) ≤ 4
+  few i h = few-hands (t .options) (isDealt t) (isAce (up t)) i (seatAt t i) (sound-options t sound .hands-most) (sound .seats i h)
+
   room : sum (λ s. prizes (t .options) s + 8 * stake s) (t .seats) ≤ allCover t
   unfolding prizes
   room =
       sum-at-most (λ s. prizes (t .options) s + 8 * stake s) seatCover (t .seats) noSeat
-      (λ i h. omega (arith, seat-prizes (t .options) (stake (seatAt t i)) (hands (seatAt t i)) (omega (arith, many-hands (seatAt t i .hands) (shaped .seats i (omega (arith, shaped .nine-seats)) .four-places)))))
+      (λ i h. omega (arith, seat-prizes (t .options) (stake (seatAt t i)) (hands (seatAt t i)) (few i (omega arith))))
 
-  pub tray-covers : Sound t → isDealt t ≡ true → (j : ℕ) → j < 9 → 8 * stake (seatAt t j) ≤ t .tray
-  tray-covers sound dealt j nine =
+  pub tray-covers : isDealt t ≡ true → (j : ℕ) → j < 9 → 8 * stake (seatAt t j) ≤ t .tray
+  tray-covers dealt j nine =
       omega (
         arith,
         room,
         sound .cover dealt,
         sum-plus (prizes (t .options)) (λ s. 8 * stake s) (t .seats),
-        sum-has (λ s. 8 * stake s) (t .seats) j noSeat (omega (arith, shaped .nine-seats)),
+        sum-has (λ s. 8 * stake s) (t .seats) j noSeat (omega arith),
       )

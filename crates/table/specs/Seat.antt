@@ -52,6 +52,10 @@ stake s = s .money .stake
 abbrev pub insurance : Seat → ℕ
 insurance s = s .money .insurance
 
+-- The seat with another purse.
+abbrev pub withPurse : Seat → ℕ → Seat
+withPurse s p = makeSeat (money p (stake s) (insurance s)) (s .hands)
+
 -- The seat has a stake.
 abbrev pub isStaked : Seat → Bool
 isStaked s = ltb 0 (stake s)

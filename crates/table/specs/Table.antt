@@ -19,7 +19,7 @@ use Rattle.table.specs.Shoe as Shoes
 abbrev pub makeTable : Options → ℕ → List Seat → Hand → Shoe → Table
 makeTable options tray seats bank shoe = record { options = options; tray = tray; seats = seats; bank = bank; shoe = shoe }
 
--- The table with another tray, another seat, other seats, another bank's hand or another shoe.
+-- The table with another tray, another seat or another shoe.
 abbrev pub withTray : Table → ℕ → Table
 withTray t tray = makeTable (t .options) tray (t .seats) (t .bank) (t .shoe)
 

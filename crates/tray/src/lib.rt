@@ -7,7 +7,7 @@ ghost use Rattle.cashier.specs.Fill.{fillConditions, fillEffect};
 ghost use Rattle.cashier.specs.Credit.{creditConditions, creditEffect};
 use broken::broken;
 use outcome::Outcome;
-use seats::round::is_dealt;
+use round::is_dealt;
 use sums::past_limit;
 use table::Table;
 

@@ -1,7 +1,7 @@
 // Whose turn it is, over the whole table. Every table is taken, a damaged count too.
 ghost use mathlib.Core.Path.{_≡_};
 ghost use Rattle.turns.specs.Turns.{whoseSeat, whosePlace, anyWaits};
-use seats::round::up;
+use round::up;
 use table::Table;
 use turn::seat_waits;
 use turn::waiting_place;

@@ -11,7 +11,7 @@ use Rattle.counters.proofs.Tallies.{room-zeros}
 use Rattle.table.specs.Table.{tableDrawn}
 use Rattle.table.specs.Faces.{outCards}
 use Rattle.table.specs.Broken.{soundFaces}
-use Rattle.faces.proofs.Counting.{counts-decide}
+use Rattle.tallies.proofs.Counting.{counts-decide}
 use borrow.Author.Needs.{needs}
 use Rattle.faces.proofs.faces_sound.Statement.{statement}
 use Rattle.faces.proofs.faces_sound.Tie as tie

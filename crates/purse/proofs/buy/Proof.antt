@@ -5,12 +5,11 @@ use native.Mathlib.Omega.{arith}
 use lib.ListN.{length, length-map}
 use borrow.Author.Needs.{needs}
 use Rattle.lists.proofs.Sums.{sum-has}
-use Rattle.table.specs.Seat.{noSeat, purse}
+use Rattle.table.specs.Seat.{noSeat, purse, withPurse}
 use Rattle.table.specs.Table.{seatAt, withSeat}
 use Rattle.table.specs.Money.{purses}
 use Rattle.table.specs.declared.Seat.{Seat}
 use Rattle.outcome.proofs.Laws.{refused, accepted}
-use Rattle.cashier.specs.Between.{withPurse}
 use Rattle.cashier.specs.Buy.{buyConditions, buyEffect}
 use Rattle.cashier.proofs.Accepted.{buy-accepted}
 use Rattle.purse.proofs.buy.Statement.{statement}

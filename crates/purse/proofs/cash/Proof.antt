@@ -3,11 +3,10 @@ use mathlib.Core.Path.{_≡_, sym, ap, _∙_}
 use Prim.Native.Nat.{_-_}
 use native.Mathlib.Omega.{arith}
 use borrow.Author.Needs.{needs}
-use Rattle.table.specs.Seat.{purse}
+use Rattle.table.specs.Seat.{purse, withPurse}
 use Rattle.table.specs.Table.{seatAt, withSeat}
 use Rattle.table.specs.declared.Seat.{Seat}
 use Rattle.outcome.proofs.Laws.{refused, accepted}
-use Rattle.cashier.specs.Between.{withPurse}
 use Rattle.cashier.specs.Cash.{cashConditions, cashEffect}
 use Rattle.cashier.proofs.Accepted.{cash-accepted}
 use Rattle.purse.proofs.cash.Statement.{statement}

@@ -3,7 +3,7 @@ use mathlib.Core.Path.{_≡_}
 use native.Mathlib.Omega.{arith}
 use borrow.Author.Needs.{needs}
 use lib.ListN.{length, length-map}
-use Rattle.seats.proofs.Hands.{laid-most, prizes-most}
+use Rattle.seat_money.proofs.Hands.{laid-most, prizes-most}
 use Rattle.sums.proofs.seat_sums.Statement.{statement}
 use Rattle.sums.proofs.seat_sums.Tie as tie
 

@@ -1,0 +1,2 @@
+-- What is asked behind the conditions between rounds.
+pub mod Answer

@@ -1,0 +1,59 @@
+-- The effect of a deal from its parts: both passes, the bank's hand and the shoe. Places count from the next card.
+use mathlib.Core.Path.{_≡_, _∙_, ap, ap₂}
+use mathlib.Core.Bool.{true, false}
+use Prim.Native.Nat.{ℕ, _+_}
+use native.Mathlib.Omega.{arith}
+use lib.ListN.{getD, take}
+use Rattle.hands.specs.declared.hand.Hand.{Hand}
+use Rattle.hands.specs.Hand.{emptyHand, withCard}
+use Rattle.table.specs.declared.Shoe.{Shoe}
+use Rattle.table.specs.declared.Table.{Table}
+use Rattle.table.specs.Shoe.{drawn, discard}
+use Rattle.table.specs.Table.{makeTable, tableShoe}
+use Rattle.dealing.specs.Pass.{firstCard, secondCard, pass}
+use Rattle.dealing.specs.Deal.{stakedSeats, burnt, dealTakes, dealtSeats, upCard, dealEffect}
+use Rattle.passes.specs.Passed.{passed}
+
+-- the table after both passes, with that hand and that shoe
+abbrev dealtTo : Table → Hand → Shoe → Table
+dealtTo t bank shoe = makeTable (t .options) (t .tray) (t .seats) bank shoe
+
+module _ (t : Table) where
+  abbrev staked : ℕ
+  staked = stakedSeats (t .seats)
+
+  -- the two passes leave all but the seats
+  both-passes : (bank : Hand) (shoe : Shoe) → dealtTo (passed false (burnt t + staked + 1) (passed true (burnt t) t)) bank shoe ≡ makeTable (t .options) (t .tray) (dealtSeats t) bank shoe
+  unfolding dealtSeats
+  both-passes bank shoe =
+      let place : t .shoe .drawn + (burnt t + staked + 1) ≡ t .shoe .drawn + burnt t + staked + 1 = omega arith in
+      ap (λ (n : ℕ). makeTable (t .options) (t .tray) (pass secondCard (t .shoe .order) n (pass firstCard (t .shoe .order) (t .shoe .drawn + burnt t) (t .seats))) bank shoe) place
+
+  up-card : getD (t .shoe .order) (t .shoe .drawn + (burnt t + staked)) 0 ≡ upCard t
+  unfolding upCard
+  up-card =
+      let place : t .shoe .drawn + (burnt t + staked) ≡ t .shoe .drawn + burnt t + staked = omega arith in
+      ap (λ (n : ℕ). getD (t .shoe .order) n 0) place
+
+  -- the table from b cards burnt and s staked seats
+  abbrev parts : ℕ → ℕ → Table
+  parts b s =
+      dealtTo (passed false (b + s + 1) (passed true b t)) (withCard emptyHand (getD (t .shoe .order) (t .shoe .drawn + (b + s)) 0))
+      (drawn (discard (t .shoe) (take b (tableShoe t))) (dealTakes t))
+
+  whole : parts (burnt t) staked ≡ dealEffect t
+  unfolding dealEffect
+  whole =
+      both-passes _ _
+      ∙ ap (λ (card : ℕ). makeTable (t .options) (t .tray) (dealtSeats t) (withCard emptyHand card) (drawn (discard (t .shoe) (take (burnt t) (tableShoe t))) (dealTakes t))) up-card
+
+  pub effect : {b s card : ℕ} {once twice : Table} {bank : Hand} {shoe : Shoe}
+      → b ≡ burnt t → s ≡ staked → card ≡ getD (t .shoe .order) (t .shoe .drawn + (b + s)) 0
+      → once ≡ passed true b t → twice ≡ passed false (b + s + 1) once → bank ≡ withCard emptyHand card
+      → shoe ≡ drawn (discard (t .shoe) (take b (tableShoe t))) (dealTakes t)
+      → dealtTo twice bank shoe ≡ dealEffect t
+  effect {b} {s} {card} {once} {twice} {bank} {shoe} b-is s-is card-is once-is twice-is bank-is shoe-is =
+      ap (λ (u : Table). dealtTo u bank shoe) (twice-is ∙ ap (passed false (b + s + 1)) once-is)
+      ∙ ap₂ (dealtTo (passed false (b + s + 1) (passed true b t))) (bank-is ∙ ap (withCard emptyHand) card-is) shoe-is
+      ∙ ap₂ parts b-is s-is
+      ∙ whole

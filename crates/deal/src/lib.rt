@@ -1,0 +1,80 @@
+// deal: burns, then one card to each staked seat, one to the bank, and a second to each (document 01, "The seventeen calls").
+// The number function asks the list's conditions in its order.
+ghost use mathlib.Core.Path.{_≡_};
+ghost use Rattle.call.specs.Refusal.{first};
+ghost use Rattle.outcome.specs.Outcome.{outcome};
+ghost use Rattle.dealing.specs.Deal.{dealConditions, dealEffect};
+use broken::broken;
+use burns::burn;
+use burns::burn_at_deal;
+use burns::deal_takes;
+use hands::hand::empty_hand;
+use hands::hand::with_card;
+use outcome::Outcome;
+use passes::pass;
+use passes::staked_seats;
+use round::cards_left;
+use round::is_dealt;
+use shoe::card_ahead;
+use shoe::draw_cards;
+use sums::some_staked;
+use sums::table_sums;
+use table::Table;
+
+fn deal_number(t: Table) -> u8
+    ensures { λ r. ⌜ r ≡ first (dealConditions t) ⌝ }
+{
+    if broken(t) {
+        return 1;
+    }
+    if is_dealt(t) {
+        return 4;
+    }
+    let sums = table_sums(t);
+    if !some_staked(sums) {
+        return 6;
+    }
+    if t.tray < sums.cover {
+        return 16;
+    }
+    let o = t.options;
+    let left = cards_left(t);
+    if left <= o.cut as usize {
+        return 17;
+    }
+    if left < deal_takes(t) {
+        return 17;
+    }
+    0
+}
+
+// The table after an accepted deal: the up card lies between the two passes.
+fn dealt(t: Table) -> Table
+    requires { ⌜ first (dealConditions t) ≡ 0 ⌝ }
+    ensures { λ r. ⌜ r ≡ dealEffect t ⌝ }
+{
+    let o = t.options;
+    let shoe = t.shoe;
+    let burnt = burn_at_deal(o, shoe);
+    let staked = staked_seats(t);
+    let second = burnt + staked + 1;
+    let up = card_ahead(shoe, burnt + staked);
+    let once = pass(t, true, burnt);
+    let mut next = pass(once, false, second);
+    next.bank = with_card(empty_hand(), up);
+    next.shoe = draw_cards(burn(shoe, o.decks, burnt), deal_takes(t));
+    next
+}
+
+pub fn deal(t: Table) -> Outcome
+    ensures { λ r. ⌜ r ≡ outcome (dealConditions t) (dealEffect t) t ⌝ }
+{
+    let number = deal_number(t);
+    if number != 0 {
+        return Outcome { number, table: t };
+    }
+    Outcome {
+        number,
+        table: dealt(t),
+    }
+}

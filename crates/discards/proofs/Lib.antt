@@ -1,0 +1,2 @@
+-- Laws of the discards that the loops cite.
+pub mod Discards

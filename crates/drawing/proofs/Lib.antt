@@ -1,0 +1,2 @@
+-- Laws of draw and double as one call.
+pub mod Laws

@@ -1,0 +1,3 @@
+-- What draw and double share.
+pub mod Grow
+pub mod Drawable

@@ -1,0 +1,2 @@
+-- What the calls that end a hand cite.
+pub mod Laws

@@ -1,0 +1,2 @@
+-- The seats at the end of a round.
+pub mod Seats

@@ -1,0 +1,2 @@
+-- What an accepted decision in turn gives its effect.
+pub mod InTurn

@@ -1,0 +1,2 @@
+-- What an accepted insurance says.
+pub mod Accepted

@@ -1,0 +1,2 @@
+-- The step of a pass over the seats.
+pub mod Next

@@ -1,0 +1,2 @@
+-- The two passes of a deal as one rule.
+pub mod Passed

@@ -1,0 +1,2 @@
+-- One walk over the seats for two questions.
+pub mod Both

@@ -1,0 +1,2 @@
+-- What a seat has done in the round.
+pub mod Acted

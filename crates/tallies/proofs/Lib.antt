@@ -1,0 +1,2 @@
+-- Laws of counted cards.
+pub mod Counting

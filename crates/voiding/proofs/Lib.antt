@@ -1,0 +1,2 @@
+-- What a sound table gives to a void.
+pub mod Back
