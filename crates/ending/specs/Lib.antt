@@ -1,3 +1,2 @@
--- The hand ended in its seat, and what even and five share.
-pub mod Ended
+-- What even and five share.
 pub mod Leave

@@ -1,74 +1,31 @@
 // stand, even and five: the hand whose turn it is ends by the decision, and no money and no card moves (document 01, "The seventeen calls").
 ghost use mathlib.Core.Path.{_≡_};
-ghost use mathlib.Core.Bool.{true, cond};
-ghost use lib.Dec.{eqb};
+ghost use mathlib.Core.Bool.{true};
 ghost use Rattle.call.specs.Refusal.{first};
 ghost use Rattle.turn.specs.Turn.{seatWaits};
 ghost use Rattle.table.specs.Seat.{hands as handsOf};
-ghost use Rattle.outcome.specs.Outcome.{makeOutcome, outcome};
+ghost use Rattle.outcome.specs.Outcome.{outcome};
 ghost use Rattle.decisions.specs.Turn.{endEffect};
 ghost use Rattle.decisions.specs.Stand.{standConditions, standEffect};
 ghost use Rattle.decisions.specs.Even.{evenConditions, evenEffect};
 ghost use Rattle.decisions.specs.Five.{fiveConditions, fiveEffect};
-ghost use Rattle.in_turn.proofs.InTurn.{InTurn};
-ghost use Rattle.ending.specs.Ended.{endedSeat};
 ghost use Rattle.ending.specs.Leave.{mayLeave, leaveConditions};
 use call::At;
+use ended::answer;
 use in_turn::turn_hand;
 use in_turn::turn_number;
-use in_turn::with_place;
 use leaving::permits_even;
 use leaving::permits_five;
 use options::Options;
 use outcome::Outcome;
 use round::up;
 use seats::seat_of;
-use seats::with_seat;
 use standing::seat_hand::BY_EVEN;
 use standing::seat_hand::BY_FIVE;
 use standing::seat_hand::BY_STAND;
 use standing::seat_hand::used;
 use table::Seat;
 use table::Table;
-use turn::waiting_place;
-
-// The seat with the hand whose turn it is ended by this code.
-fn ended_seat(o: Options, card: u8, s: Seat, code: u8) -> Seat
-    requires { ⌜ seatWaits o card (handsOf s) ≡ true ⌝ }
-    ensures { λ r. ⌜ r ≡ endedSeat o card s code ⌝ }
-{
-    let hands = s.hands;
-    let p = waiting_place(o, card, hands);
-    let mut h = turn_hand(o, card, s);
-    h.ended = code;
-    with_place(s, p, h)
-}
-
-fn ended(t: Table, at: At, code: u8) -> Table
-    requires { ⌜ InTurn t (at .seat) ⌝ }
-    ensures { λ r. ⌜ r ≡ endEffect code t (at .seat) ⌝ }
-{
-    let o = t.options;
-    let j = at.seat as usize;
-    let s = seat_of(t, j);
-    let card = up(t);
-    let next = ended_seat(o, card, s, code);
-    with_seat(t, j, next)
-}
-
-// The answer of a call that ends a hand, by its number.
-fn answer(t: Table, at: At, number: u8, code: u8) -> Outcome
-    requires { ⌜ (number ≡ 0 → InTurn t (at .seat)) ⌝ }
-    ensures { λ r. ⌜ r ≡ makeOutcome number (cond (eqb number 0) (endEffect code t (at .seat)) t) ⌝ }
-{
-    if number != 0 {
-        return Outcome { number, table: t };
-    }
-    Outcome {
-        number,
-        table: ended(t, at, code),
-    }
-}
 
 // Every waiting hand may stand, so 13 is never given.
 pub fn stand(t: Table, at: At) -> Outcome

@@ -1,4 +1,4 @@
-// buy and cash: a seat's purse up and down; stake: from purse to layout (document 01, "The seventeen calls").
+// buy and cash: a seat's purse up and down (document 01, "The seventeen calls").
 // Each number function asks its list's conditions in the list's order.
 ghost use mathlib.Core.Path.{_≡_};
 ghost use Rattle.call.specs.Refusal.{first};

@@ -4,7 +4,8 @@ use borrow.Author.Needs.{needs}
 use lib.ListN.{length, length-map}
 use Rattle.decisions.specs.Turn.{endEffect}
 use Rattle.ending.specs.Leave.{leaveConditions}
-use Rattle.ending.proofs.Laws.{answered, leave-in-turn}
+use Rattle.ended.proofs.Laws.{answered}
+use Rattle.ending.proofs.Laws.{leave-in-turn}
 use Rattle.ending.proofs.leave.Statement.{statement}
 use Rattle.ending.proofs.leave.Tie as tie
 

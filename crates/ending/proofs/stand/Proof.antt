@@ -4,7 +4,7 @@ use borrow.Author.Needs.{needs}
 use lib.ListN.{length, length-map}
 use Rattle.decisions.specs.Stand.{standConditions, standEffect}
 use Rattle.in_turn.proofs.InTurn.{in-turn-alone}
-use Rattle.ending.proofs.Laws.{answered}
+use Rattle.ended.proofs.Laws.{answered}
 use Rattle.ending.proofs.stand.Statement.{statement}
 use Rattle.ending.proofs.stand.Tie as tie
 

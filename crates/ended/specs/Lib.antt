@@ -1,0 +1,2 @@
+-- The hand ended in its seat.
+pub mod Ended

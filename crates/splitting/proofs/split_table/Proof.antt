@@ -1,0 +1,56 @@
+-- The seat is one of the nine, and the two cards are the shoe's next ones.
+use borrow.Author.Needs.{needs}
+use Rattle.splitting.proofs.Accepted.{read-pays, read-split}
+use Rattle.splitting.proofs.Effect.{same-effect}
+use Rattle.splitting.proofs.split_table.Statement.{statement}
+use Rattle.splitting.proofs.split_table.Tie as tie
+
+cast-j : tie.Need-cast-j
+cast-j c = search needs
+
+seat-of-requires : tie.Need-seat-of-requires
+seat-of-requires c κs = c .before .before .pre .turn .nine
+
+up-requires : tie.Need-up-requires
+up-requires c κs = search needs
+
+card-ahead-requires : tie.Need-card-ahead-requires
+card-ahead-requires c κs = search needs
+
+card-ahead-requires-2 : tie.Need-card-ahead-requires-2
+card-ahead-requires-2 c κs = search needs
+
+split-seat-requires : tie.Need-split-seat-requires
+split-seat-requires c κs =
+    let read = c .before .before .before in
+    let start = read .before .before .before .before in
+    read-pays (start .args .t) (start .args .at .seat) _ _ (read .up .ensures) (read .before .seat-of .ensures) (start .pre)
+
+draw-cards-requires : tie.Need-draw-cards-requires
+draw-cards-requires c κs = c .before .before .before .before .before .before .before .before .pre .two-left
+
+with-seat-requires : tie.Need-with-seat-requires
+with-seat-requires c κs = search needs
+
+returns : tie.Need-returns
+returns c =
+    let read = c .before .before .before .before .before .before in
+    let start = read .before .before .before .before in
+    let t = start .args .t in
+    let j = start .args .at .seat in
+    let next = read-split t j _ _ (read .up .ensures) (read .before .seat-of .ensures) _ _ _ (c .before .before .split-seat .ensures) in
+    same-effect t j _ _ _ _ _ next (c .before .before .before .before .card-ahead .ensures) (c .before .before .before .card-ahead2 .ensures) (c .with-seat .ensures) (c .before .draw-cards .ensures)
+
+pub split-table-spec : {M : Type 1} → statement M
+split-table-spec =
+    tie.close
+    (tie.spec
+    cast-j
+    seat-of-requires
+    up-requires
+    card-ahead-requires
+    card-ahead-requires-2
+    split-seat-requires
+    draw-cards-requires
+    with-seat-requires
+    returns)

@@ -1,0 +1,2 @@
+-- The part of a split that is one seat's.
+pub mod SplitSeat

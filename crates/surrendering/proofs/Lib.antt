@@ -1,0 +1,2 @@
+-- What surrender asks, and the seat of an accepted one.
+pub mod Asked
