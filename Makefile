@@ -1,5 +1,5 @@
-# make test: the gate. make session: the marked session of document 01. make fmt: the layout of every file.
-.PHONY: test session fmt toolchain
+# make test: the gate. make session: the marked session of document 01. make bench: nanoseconds a call. make fmt: the layout of every file.
+.PHONY: test session bench fmt toolchain
 
 toolchain:
 	@command -v rt >/dev/null || { echo "Discgauze needs the Rattle toolchain: the command 'rt' is not on the PATH." >&2; exit 1; }
@@ -8,8 +8,11 @@ test: toolchain
 	@.ci/run
 
 session: toolchain
-	@if [ -d crates/session ]; then rt check session >&2 && target/bin/session; \
-	else echo "The program 'session' does not exist yet: it comes with the call that closes a round." >&2; exit 1; fi
+	@rt check session >&2 && target/bin/session
+
+bench: toolchain
+	@rt check bench >&2 && calls=1000000 && begin=$$(date +%s%N) && target/bin/bench $$calls && end=$$(date +%s%N) && \
+	echo "$$(( (end - begin) / calls )) nanoseconds a call"
 
 fmt: toolchain
 	@rt fmt

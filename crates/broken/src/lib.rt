@@ -6,13 +6,12 @@ ghost use Rattle.table.specs.Broken.{seatSound, soundBank, soundMoney, sound as
 ghost use Rattle.sums.specs.Sums.{tableSums};
 use faces::faces_sound;
 use faces::shoe_sound;
+use limits::over_limit;
 use options::in_range;
 use round::is_dealt;
 use round::up;
 use soundness::sound_seat;
 use sums::Sums;
-use sums::over_limit;
-use sums::some_staked;
 use sums::table_sums;
 use table::Table;
 
@@ -38,7 +37,7 @@ fn bank_sound(t: Table, m: Sums) -> bool
     ensures { λ r. ⌜ r ≡ soundBank t ⌝ }
 {
     let bank = t.bank;
-    bank.count == 0 || (bank.count == 1 && some_staked(m))
+    bank.count == 0 || (bank.count == 1 && 0 < m.cover)
 }
 
 // All money is within the limit, and in a dealt round tray and prizes cover every stake, compared so that no sum wraps.

@@ -5,7 +5,6 @@ ghost use lib.ListN.{take};
 ghost use Rattle.table.specs.Shoe.{leftOf, discard};
 ghost use Rattle.dealing.specs.Burn.{burnAtDeal};
 ghost use Rattle.dealing.specs.Deal.{dealTakes};
-use discards::discard_card;
 use options::Options;
 use passes::staked_seats;
 use shoe::card_ahead;
@@ -39,10 +38,13 @@ pub fn burn(sh: Shoe, decks: u8, n: usize) -> Shoe
     requires { ⌜ (sh .drawn + n ≤ 52 * decks) × (52 * decks ≤ 416) × (sh .discarded + n ≤ 416) ⌝ }
     ensures { λ r. ⌜ r ≡ discard sh (take n (leftOf decks sh)) ⌝ }
 {
-    let mut next = sh;
+    let at = sh.discarded;
+    let mut discards = sh.discards;
     for i in 0usize..n {
-        let card = card_ahead(sh, i);
-        next = discard_card(next, card);
+        discards[at + i] = card_ahead(sh, i);
     }
+    let mut next = sh;
+    next.discards = discards;
+    next.discarded = at + n;
     next
 }

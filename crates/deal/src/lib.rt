@@ -17,7 +17,6 @@ use round::cards_left;
 use round::is_dealt;
 use shoe::card_ahead;
 use shoe::draw_cards;
-use sums::some_staked;
 use sums::table_sums;
 use table::Table;
 
@@ -31,7 +30,7 @@ fn deal_number(t: Table) -> u8
         return 4;
     }
     let sums = table_sums(t);
-    if !some_staked(sums) {
+    if sums.cover == 0 {
         return 6;
     }
     if t.tray < sums.cover {

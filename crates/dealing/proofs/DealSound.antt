@@ -26,10 +26,10 @@ use Rattle.table.specs.Shape.{Shaped, ShapedSeat}
 use Rattle.table.specs.Sound.{Sound, SoundSeat}
 use Rattle.table.proofs.Facts.{sound-options, decks-416, room-discards, laid-stake, no-prizes, no-hands}
 use Rattle.table.proofs.SeatChange.{sum-out}
-use Rattle.table.proofs.RoundEnd.{discards-more}
 use Rattle.dealing.specs.Pass.{pass, firstCard, secondCard}
 use Rattle.dealing.specs.Deal.{stakedSeats, burnt, dealTakes, dealtSeats, upCard, dealEffect}
 use Rattle.lists.proofs.Parts.{any-map, part-of-take, sum-places, sum-more}
+use Rattle.lists.proofs.Stores.{sets-taken}
 use Rattle.dealing.proofs.Pass.{pass-view, pass-length, pass-money, pass-either, pass-staked, pass-cards}
 use Rattle.dealing.proofs.DealtSeat.{dealtSeat, both-cards, first-cards, second-cards, dealt-laid, dealt-prizes, dealt-shaped, dealt-sound}
 
@@ -222,7 +222,7 @@ module _ (t : Table) (shaped : Shaped t) (sound : Sound t) (ok : Dealable t) whe
 
   discards-after : tableDiscards (dealEffect t) ≡ tableDiscards t ++ burntCards
   unfolding dealEffect
-  discards-after = discards-more (t .shoe .discards) (t .shoe .discarded) burntCards (omega (arith, burnt-room, shaped .discards))
+  discards-after = sets-taken (t .shoe .discards) (t .shoe .discarded) burntCards (omega (arith, burnt-room, shaped .discards))
 
   -- what the deal takes of the shoe, in its order: the burnt cards, the first pass, the bank's card and the second pass
   taken-parts : (w : ℕ → ℕ)

@@ -1,6 +1,5 @@
 // Cards onto the discards, behind the others in their order.
 ghost use mathlib.Core.Path.{_≡_};
-ghost use mathlib.Core.List.{[], _∷_};
 ghost use Prim.Native.Nat.{_+_, _≤_};
 ghost use lib.ListN.{length};
 ghost use Rattle.lists.specs.Flat.{flat};
@@ -13,33 +12,24 @@ use standing::seat_hand::SeatHands;
 use standing::seat_hand::used;
 use table::Shoe;
 
-// The card becomes a discard, behind the others. Public for the calls alone, which discard only drawn cards of a sound table: so it asks for room.
-pub fn discard_card(sh: Shoe, card: u8) -> Shoe
-    requires { ⌜ sh .discarded + 1 ≤ 416 ⌝ }
-    ensures { λ r. ⌜ r ≡ discard sh (card ∷ []) ⌝ }
-{
-    let at = sh.discarded;
-    let mut next = sh;
-    next.discards[at] = card;
-    next.discarded = at + 1;
-    next
-}
-
-// The hand's cards become discards. Public for the calls alone, and it asks for room as one card does.
+// The hand's cards become discards. Public for the calls alone, which discard only drawn cards of a sound table: so it asks for room.
 pub fn discard_hand(sh: Shoe, h: Hand) -> Shoe
     requires { ⌜ sh .discarded + length (cardsOf h) ≤ 416 ⌝ }
     ensures { λ r. ⌜ r ≡ discard sh (cardsOf h) ⌝ }
 {
     let n = held(h);
-    let mut next = sh;
+    let at = sh.discarded;
+    let mut discards = sh.discards;
     for i in 0usize..n {
-        let card = h.cards[i];
-        next = discard_card(next, card);
+        discards[at + i] = h.cards[i];
     }
+    let mut next = sh;
+    next.discards = discards;
+    next.discarded = at + n;
     next
 }
 
-// The cards of a seat's hands become discards, by place. Public for the calls alone, and it asks for room as one card does.
+// The cards of a seat's hands become discards, by place. Public for the calls alone, and it asks for room as one hand does.
 pub fn discard_hands(sh: Shoe, s: SeatHands) -> Shoe
     requires { ⌜ sh .discarded + length (flat (λ h. h .cards) (handsOf s)) ≤ 416 ⌝ }
     ensures { λ r. ⌜ r ≡ discard sh (flat (λ h. h .cards) (handsOf s)) ⌝ }

@@ -9,7 +9,8 @@ use Rattle.table.specs.declared.Table.{Table}
 use Rattle.table.specs.Table.{cardsLeft}
 use Rattle.table.specs.Money.{layout, purses}
 use Rattle.table.specs.Broken.{broken}
-use Rattle.turns.specs.Turns.{whoseSeat, whosePlace, anyWaits}
+use Rattle.turns.specs.Turns.{whoseSeat, anyWaits}
+use Rattle.turn_places.specs.Place.{whosePlace}
 use Rattle.display.specs.declared.TableShown.{TableShown}
 use Rattle.display.specs.declared.TurnShown.{TurnShown}
 

@@ -9,8 +9,8 @@ use options::Options;
 use round::cards_left;
 use sums::table_sums;
 use table::Table;
+use turn_places::turn_place;
 use turns::some_waits;
-use turns::turn_place;
 use turns::turn_seat;
 
 // The options; the tray, all layout and all purses; how many cards are left, how many are discards, and the bank's cards.

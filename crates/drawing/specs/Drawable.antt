@@ -1,5 +1,4 @@
 -- What an accepted draw or double gives (document 01, draw and double): the seat's turn, `more` in its purse, a prize in the tray, a card in the shoe.
-use mathlib.Core.Path.{_≡_}
 use Prim.Native.Nat.{ℕ, _+_, _*_, _≤_}
 use Rattle.table.specs.declared.Table.{Table}
 use Rattle.table.specs.Seat.{purse, stake}

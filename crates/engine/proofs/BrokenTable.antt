@@ -30,10 +30,11 @@ use Rattle.decisions.specs.Split.{splitConditions}
 use Rattle.decisions.specs.Even.{evenConditions}
 use Rattle.decisions.specs.Five.{fiveConditions}
 use Rattle.settling.specs.Close.{closeConditions}
-use Rattle.engine.specs.Step.{number}
+use Rattle.answers.specs.Stepped.{stepped}
+use Rattle.engine.specs.Step.{number, step}
 
 pub broken-one : (t : Table) → broken t ≡ true → (c : Call) (order : List ℕ) → number t c order ≡ 1
-unfolding number first fillConditions creditConditions betweenConditions buyConditions cashConditions stakeConditions dealConditions roundConditions insureConditions turnConditions drawConditions doubleConditions splitConditions surrenderConditions evenConditions fiveConditions closeConditions voidConditions loadConditions
+unfolding number first fillConditions creditConditions betweenConditions buyConditions cashConditions stakeConditions dealConditions roundConditions insureConditions turnConditions drawConditions doubleConditions splitConditions surrenderConditions evenConditions fiveConditions closeConditions voidConditions loadConditions step stepped
 broken-one t b (Fill n) order = simp b
 broken-one t b (Credit n) order = simp b
 broken-one t b (Buy at n) order = simp b

@@ -53,7 +53,8 @@ use Rattle.decisions.specs.Double.{doubleConditions}
 use Rattle.decisions.specs.Split.{splitConditions, splitEffect}
 use Rattle.settling.specs.BankDraw.{bankBurn, bankTakes, bankAtClose, closeTakes}
 use Rattle.settling.specs.Close.{closeConditions, seatBack, closeEffect}
-use Rattle.engine.specs.Step.{number, next}
+use Rattle.answers.specs.Stepped.{stepped}
+use Rattle.engine.specs.Step.{number, next, step}
 
 pub house : Options
 house =
@@ -100,5 +101,5 @@ pub session-rows : rows (opened house order) calls
     ∷ (0 ∷ 920 ∷ 0 ∷ 180 ∷ 43 ∷ [])
     ∷ (5 ∷ 920 ∷ 0 ∷ 180 ∷ 43 ∷ [])
     ∷ []
-unfolding house others marked order at row rows calls sum any all firstPlace allBelow anyBelow flat first pointsOf withCard total couldBePlayed isNatural isPair allSevens suitedSixSevenEight isPrizeHand ranges inRange natural hasTwoCards evenOpen fiveOpen isTwoAces acesWait cardsWait waits mustDraw permitsStand takesCards permitsDraw permitsDouble permitsSplit permitsEven permitsFive seatDrew permitsSurrender wager handBack againstBank againstNatural byTotals insurancePay prize laid prizes validOrder stakePermitted insurancePermitted soundHand soundNumber soundStake soundInsurance soundHands soundPrizes soundSeat soundShoe soundFaces soundBank soundMoney sound openConditions openNumber opened fillConditions fillEffect betweenConditions buyConditions buyEffect stakeConditions stakeEffect burnAtDeal pass dealTakes dealConditions dealtSeats upCard dealEffect anyDrew anyDecided roundConditions insureConditions insureEffect turnConditions endEffect cardEffect doubleConditions splitConditions splitEffect bankBurn bankTakes bankAtClose closeTakes closeConditions seatBack closeEffect number next
+unfolding house others marked order at row rows calls sum any all firstPlace allBelow anyBelow flat first pointsOf withCard total couldBePlayed isNatural isPair allSevens suitedSixSevenEight isPrizeHand ranges inRange natural hasTwoCards evenOpen fiveOpen isTwoAces acesWait cardsWait waits mustDraw permitsStand takesCards permitsDraw permitsDouble permitsSplit permitsEven permitsFive seatDrew permitsSurrender wager handBack againstBank againstNatural byTotals insurancePay prize laid prizes validOrder stakePermitted insurancePermitted soundHand soundNumber soundStake soundInsurance soundHands soundPrizes soundSeat soundShoe soundFaces soundBank soundMoney sound openConditions openNumber opened fillConditions fillEffect betweenConditions buyConditions buyEffect stakeConditions stakeEffect burnAtDeal pass dealTakes dealConditions dealtSeats upCard dealEffect anyDrew anyDecided roundConditions insureConditions insureEffect turnConditions endEffect cardEffect doubleConditions splitConditions splitEffect bankBurn bankTakes bankAtClose closeTakes closeConditions seatBack closeEffect number next step stepped
 session-rows = refl

@@ -1,13 +1,12 @@
 -- Document 01, "The seventeen calls": one step. The number is the first whose condition holds; at 0 the effect is the next table, else the table stays.
-use mathlib.Core.Bool.{cond}
 use mathlib.Core.List.{List}
 use Prim.Native.Nat.{ℕ}
-use lib.Dec.{eqb}
 use Rattle.call.specs.declared.Call.{Call}
 use Rattle.call.specs.declared.Call.the-variants.{Fill, Credit, Buy, Cash, Stake, Deal, Insure, Stand, Draw, Double, Split, Surrender, Even, Five, Close, Void, Load}
-use Rattle.call.specs.Refusal.{Condition, first}
-use Rattle.call.specs.Answer.{Answer, Shown, nothing}
+use Rattle.call.specs.Refusal.{Condition}
+use Rattle.call.specs.Answer.{Shown, nothing}
 use Rattle.table.specs.declared.Table.{Table}
+use Rattle.answers.specs.Stepped.{Step, stepped}
 use Rattle.cashier.specs.Fill.{fillConditions, fillEffect}
 use Rattle.cashier.specs.Credit.{creditConditions, creditEffect}
 use Rattle.cashier.specs.Buy.{buyConditions, buyEffect}
@@ -86,13 +85,13 @@ shown t Close = closeShown t
 shown t Void = nothing
 shown t Load = nothing
 
--- The number of a call.
-unfoldable pub number : Table → Call → List ℕ → ℕ
-number t c order = first (conditions t c order)
+-- One step: the answer and the next table.
+unfoldable pub step : Table → Call → List ℕ → Step
+step t c order = stepped (conditions t c order) (shown t c) (effect t c order) t
 
--- The answer and the next table: a refused call shows nothing and leaves the table as it was.
-unfoldable pub answer : Table → Call → List ℕ → Answer
-answer t c order = record { number = number t c order; shown = cond (eqb (number t c order) 0) (shown t c) nothing }
+-- Its number, and the table that the next call gets.
+unfoldable pub number : Table → Call → List ℕ → ℕ
+number t c order = step t c order .answer .number
 
 unfoldable pub next : Table → Call → List ℕ → Table
-next t c order = cond (eqb (number t c order) 0) (effect t c order) t
+next t c order = step t c order .table

@@ -11,3 +11,4 @@ pub mod Parts
 pub mod Counts
 pub mod Flats
 pub mod Stores
+pub mod Numbered

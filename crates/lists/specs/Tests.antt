@@ -1,4 +1,4 @@
--- Tests over a list: some element, every element, and the place of the first that passes.
+-- Tests over a list: some element, every element, those that pass, and the place of the first.
 use mathlib.Core.Bool.{Bool, true, false, cond, _&&_, _||_}
 use mathlib.Core.List.{List, [], _∷_}
 use Prim.Native.Nat.{ℕ, suc}
@@ -13,6 +13,11 @@ module _ {A : Type 0} where
   unfoldable pub all : (A → Bool) → List A → Bool
   all f [] = true
   all f (x ∷ xs) = f x && all f xs
+
+  -- the elements that pass, in their order
+  unfoldable pub those : (A → Bool) → List A → List A
+  those f [] = []
+  those f (x ∷ xs) = cond (f x) (x ∷ those f xs) (those f xs)
 
   -- the place of the first element that passes, from 0; the length where none does
   unfoldable pub firstPlace : (A → Bool) → List A → ℕ

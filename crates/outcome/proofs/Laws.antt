@@ -1,9 +1,7 @@
 -- A call's code first works the number out, then gives back the table it got or the effect.
-use mathlib.Core.Path.{_≡_, refl, sym, ap}
-use mathlib.Core.Bool.{cond}
+use mathlib.Core.Path.{_≡_}
 use mathlib.Core.List.{List}
 use Prim.Native.Nat.{ℕ}
-use lib.Dec.{eqb}
 use borrow.Author.Tests.{ne-eqb}
 use Rattle.call.specs.Refusal.{Condition, first}
 use Rattle.table.specs.declared.Table.{Table}

@@ -9,8 +9,6 @@ use hands::hand::Hand;
 use hands::hand::empty_hand;
 use hands::hand::with_card;
 use seats::is_staked;
-use seats::seat_of;
-use seats::with_seat;
 use shoe::card_ahead;
 use standing::seat_hand::DEALT;
 use standing::seat_hand::NOT_ENDED;
@@ -33,7 +31,7 @@ pub fn staked_seats(t: Table) -> usize
 {
     let mut n: usize = 0;
     for i in 0usize..9 {
-        let s = seat_of(t, i);
+        let s = t.seats[i];
         n += taken(s);
     }
     n
@@ -87,9 +85,8 @@ pub fn pass(t: Table, first: bool, at: usize) -> Table
     let mut next = t;
     let mut n = at;
     for i in 0usize..9 {
-        let s = seat_of(t, i);
-        let card = card_ahead(shoe, n);
-        next = with_seat(next, i, served(first, s, card));
+        let s = t.seats[i];
+        next.seats[i] = served(first, s, card_ahead(shoe, n));
         n += taken(s);
     }
     next

@@ -1,6 +1,6 @@
 -- Document 01, "The rehearsal hands", proved together as one table over the definitions. The stake S is 20.
 use mathlib.Core.Path.{_≡_}
-use mathlib.Core.Bool.{true, false}
+use mathlib.Core.Bool.{false}
 use mathlib.Core.List.{List, [], _∷_, _++_}
 use Prim.Native.Nat.{ℕ}
 use lib.IntN.{ℤ, pos, negℤ}

@@ -1,2 +1,2 @@
--- What a display reads of a seat and of a hand.
+-- What a display reads of a seat.
 pub mod Shown

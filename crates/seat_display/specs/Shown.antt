@@ -1,22 +1,15 @@
--- What a display reads of a seat and of a hand in its place. A broken table, a seat beyond the option and a place with no hand show nothing.
+-- What a display reads of a seat. A broken table and a seat beyond the option show nothing.
 use mathlib.Core.Bool.{Bool, cond, _||_}
 use Prim.Native.Nat.{ℕ}
 use lib.Dec.{leb}
-use lib.ListN.{length, getD}
-use Rattle.hands.specs.declared.hand.Hand.{Hand}
-use Rattle.hands.specs.Hand.{cardsOf, emptyHand}
-use Rattle.totals.specs.Total.{total}
+use lib.ListN.{length}
 use Rattle.options.specs.declared.Options.{Options}
-use Rattle.standing.specs.declared.seat_hand.SeatHand.{SeatHand}
-use Rattle.standing.specs.SeatHand.{playedOf, dealt, notEnded}
-use Rattle.stakes.specs.Wager.{wager}
 use Rattle.table.specs.declared.Seat.{Seat}
 use Rattle.table.specs.declared.Table.{Table}
-use Rattle.table.specs.Seat.{noPlace, purse, stake, insurance, hands, laid, prizes}
+use Rattle.table.specs.Seat.{purse, stake, insurance, hands, laid, prizes}
 use Rattle.table.specs.Table.{seatAt}
 use Rattle.table.specs.Broken.{broken}
 use Rattle.seat_display.specs.declared.SeatShown.{SeatShown}
-use Rattle.seat_display.specs.declared.HandShown.{HandShown}
 
 -- A table that is broken, or that has no such seat.
 unfoldable pub noSuch : Table → ℕ → Bool
@@ -36,21 +29,3 @@ seatValues o s = makeSeatShown (purse s) (stake s) (insurance s) (laid s) (prize
 
 unfoldable pub seatShown : Table → ℕ → SeatShown
 seatShown t i = cond (noSuch t i) noSeatShown (seatValues (t .options) (seatAt t i))
-
--- A hand's cards and their total, its wager, where it comes from and how it ended.
-abbrev pub makeHandShown : Hand → ℕ → ℕ → ℕ → ℕ → HandShown
-makeHandShown hand total wager origin ended = record { hand = hand; total = total; wager = wager; origin = origin; ended = ended }
-
--- What is shown where there is no such hand.
-abbrev pub nothingShown : HandShown
-nothingShown = makeHandShown emptyHand 0 0 dealt notEnded
-
-abbrev pub handValues : ℕ → SeatHand → HandShown
-handValues stake h = makeHandShown (h .hand) (total (cardsOf (h .hand))) (wager stake (playedOf h)) (h .origin) (h .ended)
-
--- The hand in that place of a seat.
-unfoldable pub placeShown : Seat → ℕ → HandShown
-placeShown s p = cond (leb (length (hands s)) p) nothingShown (handValues (stake s) (getD (s .hands .places) p noPlace))
-
-unfoldable pub handShown : Table → ℕ → ℕ → HandShown
-handShown t i p = cond (noSuch t i) nothingShown (placeShown (seatAt t i) p)

@@ -1,17 +1,16 @@
 -- An accepted close keeps the table good: the tray pays what goes back from what was laid and its cover, and the cards are discards.
-use mathlib.Core.Path.{_≡_, refl, sym, _∙_, ap, subst}
-use mathlib.Core.Bool.{Bool, true, false}
-use mathlib.Core.List.{List, [], _∷_, _++_}
+use mathlib.Core.Path.{_≡_, refl, sym, _∙_, ap}
+use mathlib.Core.Bool.{true, false}
+use mathlib.Core.List.{List, _∷_}
 use Prim.Native.Nat.{ℕ, _+_, _-_, _*_, _≤_, _<_}
 use native.Mathlib.Decide.{decLe}
 use native.Mathlib.Omega.{arith}
 use lib.IntN.{pos}
-use lib.ListN.{length, getD, take, drop, length-take, length-drop, List·getD-eq-default}
-use lib.Seq.{take-add, length-take-le}
-use borrow.Author.Tests.{ltb-true, not-false, ne-eqb}
+use lib.ListN.{getD, List·getD-eq-default}
+use borrow.Author.Tests.{not-false, ne-eqb}
 use Rattle.lists.specs.Sum.{sum}
 use Rattle.lists.specs.Tests.{all}
-use Rattle.lists.proofs.Sums.{sum-append, sum-plus, sum-at-most}
+use Rattle.lists.proofs.Sums.{sum-plus}
 use Rattle.lists.proofs.Picks.{cond-most}
 use Rattle.lists.proofs.Differences.{diff-pos, diff-add}
 use Rattle.call.specs.declared.Call.the-variants.{Close}
@@ -25,111 +24,44 @@ use Rattle.payment.specs.HandPay.{handPay}
 use Rattle.payment.specs.Insurance.{insurancePay}
 use Rattle.table.specs.declared.Seat.{Seat}
 use Rattle.table.specs.declared.Table.{Table}
-use Rattle.table.specs.Seat.{noSeat, purse, stake, insurance, hands, laid, prizes, seatCover}
+use Rattle.table.specs.Seat.{noSeat, purse, stake, insurance, hands, laid}
 use Rattle.table.specs.Shoe.{drawn, discard, isFresh}
-use Rattle.table.specs.Table.{seatAt, handCards, bankCards, isDealt, up, tableOrder, tableShoe}
+use Rattle.table.specs.Table.{seatAt, isDealt, up, tableOrder}
 use Rattle.table.specs.Money.{layout}
 use Rattle.table.specs.Shape.{Shaped}
 use Rattle.table.specs.Sound.{Sound, SoundSeat, Nothing}
 use Rattle.table.proofs.Facts.{sound-options, dealt-drawn, no-hands}
 use Rattle.table.proofs.RoundEnd.{RoundEnd, end-shaped, end-sound}
 use Rattle.history.specs.Entry.{Entry, entry}
-use Rattle.history.specs.Cards.{Cards, makeCards, callTakes, bankTaken, bankFinal, cardsOfHistory}
+use Rattle.history.specs.Cards.{makeCards, callTakes, bankTaken, bankFinal, cardsOfHistory}
 use Rattle.history.specs.Money.{closingScore, purseOf}
 use Rattle.agreement.specs.Agrees.{Good}
 use Rattle.agreement.proofs.EndOfRound.{Ends, ends, EndCall, purse-end, end-call}
-use Rattle.settling.specs.BankDraw.{bankBurn, bankTakes, burntAtClose, bankAtClose, closeTakes}
+use Rattle.settling.specs.BankDraw.{bankAtClose, closeTakes}
 use Rattle.settling.specs.Close.{closeConditions, closeScore, seatBack, closeEffect}
-use Rattle.settling.proofs.Bank.{known, burns-same, bank-same, bank-enough, bank-new}
-use Rattle.settling.proofs.Nets.{nets-diff, insurance-diff, laid-wagers, back-most}
+use Rattle.settling.proofs.Bank.{burns-same}
+use Rattle.settling.proofs.Taken.{cardsAt, closedCards, one-bank, final-same, takes, enough, moved}
+use Rattle.settling.proofs.Nets.{nets-diff, insurance-diff, laid-wagers}
+use Rattle.settling.proofs.Tray.{dealt-seat, tray-pays}
 
-list-of-one : (xs : List ℕ) → length xs ≡ 1 → xs ≡ getD xs 0 0 ∷ []
-list-of-one [] e = absurd (omega arith)
-list-of-one (x ∷ []) e = refl
-list-of-one (x ∷ y ∷ ys) e = absurd (omega arith)
-
--- what an accepted close finds, on any sound table
-module _ (t : Table) (shaped : Shaped t) (sound : Sound t) (e : first (closeConditions t) ≡ 0) where
-  abbrev o : Options
-  o = t .options
-
+-- what an accepted close finds
+module _ (t : Table) (e : first (closeConditions t) ≡ 0) where
   accepted : (k : ℕ) → getD (closeConditions t) k (0, false) .1 ≡ false
   unfolding closeConditions all
   accepted k = accepted-at (closeConditions t) k refl e
 
-  dealt : isDealt t ≡ true
+  pub close-dealt : isDealt t ≡ true
   unfolding closeConditions
-  dealt = not-false (isDealt t) (accepted 1)
+  close-dealt = not-false (isDealt t) (accepted 1)
 
-  stands : mustDraw (bankAtClose t) ≡ false
+  pub close-stands : mustDraw (bankAtClose t) ≡ false
   unfolding closeConditions
-  stands = accepted 3
+  close-stands = accepted 3
 
-  one-bank : bankCards t ≡ up t ∷ []
-  one-bank = list-of-one (bankCards t) (omega (arith, ltb-true 0 (length (bankCards t)) dealt, length-take (t .bank .count) (t .bank .cards), sound .bank))
-
-  abbrev c : Cards
-  c = known o (tableOrder t) (isFresh (t .shoe)) (t .shoe .drawn) (up t)
-
-  -- the bank's cards
-  stands-up : mustDraw (bankTakes (up t ∷ []) (drop (bankBurn o) (tableShoe t))) ≡ false
-  unfolding bankAtClose
-  stands-up = rw one-bank at stands
-
-  at-close : bankAtClose t ≡ (up t ∷ []) ++ take (bankTaken o c) (drop (bankBurn o) (tableShoe t))
-  unfolding bankAtClose
-  at-close = rw one-bank (bank-new o (tableOrder t) (isFresh (t .shoe)) (t .shoe .drawn) (up t) stands-up)
-
-  final-same : bankAtClose t ≡ bankFinal o c
-  unfolding bankAtClose
-  final-same = rw one-bank (bank-same o (tableOrder t) (isFresh (t .shoe)) (t .shoe .drawn) (up t) stands-up)
-
-  enough-left : bankTaken o c ≤ length (drop (bankBurn o) (tableShoe t))
-  enough-left = bank-enough o (tableOrder t) (isFresh (t .shoe)) (t .shoe .drawn) (up t) stands-up
-
-  takes : closeTakes t ≡ bankBurn o + bankTaken o c
-  unfolding closeTakes
-  takes =
-      let new = length-take-le (bankTaken o c) (drop (bankBurn o) (tableShoe t)) enough-left in
-      omega (arith, ap length at-close, ap length one-bank)
-
-  one-more : 1 ≤ bankTaken o c
-  unfolding bankTaken
-  one-more = omega arith
-
-  -- the shoe has them
-  enough : t .shoe .drawn + closeTakes t ≤ 52 * o .decks
-  enough =
-      omega (
-        arith,
-        takes,
-        one-more,
-        enough-left,
-        length-drop (bankBurn o) (tableShoe t),
-        length-drop (t .shoe .drawn) (tableOrder t),
-        length-take (52 * o .decks) (t .shoe .order),
-        sound .drawn,
-      )
-
-  -- all cards that become discards
-  abbrev cards : List ℕ
-  cards = burntAtClose t ++ handCards t ++ bankAtClose t
-
-  moved : (w : ℕ → ℕ) → sum w cards ≡ sum w (handCards t ++ bankCards t) + sum w (take (closeTakes t) (tableShoe t))
-  moved w =
-      let new = take (bankTaken o c) (drop (bankBurn o) (tableShoe t)) in
-      omega (
-        arith,
-        sum-append w (burntAtClose t ++ handCards t) (bankAtClose t),
-        sum-append w (burntAtClose t) (handCards t),
-        ap (sum w) at-close,
-        sum-append w (up t ∷ []) new,
-        ap (sum w) one-bank,
-        sum-append w (handCards t) (bankCards t),
-        ap (λ (n : ℕ). sum w (take n (tableShoe t))) takes,
-        ap (sum w) (take-add (bankBurn o) (bankTaken o c) (tableShoe t)),
-        sum-append w (burntAtClose t) new,
-      )
+-- and what it leaves, on any sound table
+module _ (t : Table) (shaped : Shaped t) (sound : Sound t) (e : first (closeConditions t) ≡ 0) where
+  abbrev o : Options
+  o = t .options
 
   -- what goes back
   abbrev paid : Seat → ℕ
@@ -139,18 +71,10 @@ module _ (t : Table) (shaped : Shaped t) (sound : Sound t) (e : first (closeCond
   few = sound-options t (sound) .hands-most
 
   in-round : (i : ℕ) → i < 9 → SoundSeat o true (isAce (up t)) i (seatAt t i)
-  in-round i h = subst (λ (d : Bool). SoundSeat o d (isAce (up t)) i (seatAt t i)) dealt (sound .seats i h)
+  in-round = dealt-seat t sound (close-dealt t e)
 
   covered : sum (seatBack o (closeScore t)) (t .seats) ≤ t .tray + layout t
-  covered =
-      omega (
-        arith,
-        sum-at-most (λ s. seatBack o (closeScore t) s + prizes o s) (λ s. laid s + seatCover s) (t .seats) noSeat
-            (λ i h. back-most o (isAce (up t)) i (seatAt t i) (in-round i (omega (arith, shaped .nine-seats))) (shaped .seats i (omega (arith, shaped .nine-seats)) .four-places) few (closeScore t)),
-        sum-plus (seatBack o (closeScore t)) (prizes o) (t .seats),
-        sum-plus laid seatCover (t .seats),
-        sound .cover dealt,
-      )
+  covered = tray-pays t sound (close-dealt t e) (shaped .nine-seats) (closeScore t)
 
   nothing-paid : (s : Seat) → Nothing s → paid s ≡ 0
   unfolding seatBack insurancePay sum
@@ -163,17 +87,17 @@ module _ (t : Table) (shaped : Shaped t) (sound : Sound t) (e : first (closeCond
         cond-most (closeScore t .natural) {x = 3 * insurance s} {y = 0} {k = 3 * insurance s} (omega arith) (omega arith),
       )
 
-  end : RoundEnd t (t .tray + layout t - sum (seatBack o (closeScore t)) (t .seats)) paid (discard (drawn (t .shoe) (closeTakes t)) cards) (closeTakes t) cards
+  end : RoundEnd t (t .tray + layout t - sum (seatBack o (closeScore t)) (t .seats)) paid (discard (drawn (t .shoe) (closeTakes t)) (closedCards t)) (closeTakes t) (closedCards t)
   end =
       record {
         paid = omega (arith, covered, sum-plus purse (seatBack o (closeScore t)) (t .seats));
         nothing-stays = nothing-paid;
         same-order = refl;
         more-drawn = refl;
-        enough = enough;
+        enough = enough t sound (close-dealt t e) (close-stands t e);
         more-discards = refl;
         more-discarded = refl;
-        cards-moved = moved;
+        cards-moved = moved t sound (close-dealt t e) (close-stands t e);
       }
 
   -- what a seat of any number has laid
@@ -187,17 +111,17 @@ module _ (t : Table) (shaped : Shaped t) (sound : Sound t) (e : first (closeCond
 
   pub close-kept : Shaped (closeEffect t) × Sound (closeEffect t)
   unfolding closeEffect
-  close-kept = (end-shaped t _ paid _ (closeTakes t) cards shaped sound end, end-sound t _ paid _ (closeTakes t) cards shaped sound end)
+  close-kept = (end-shaped t _ paid _ (closeTakes t) (closedCards t) shaped sound end, end-sound t _ paid _ (closeTakes t) (closedCards t) shaped sound end)
 
 -- and what the history says of it
 module _ (opening : List ℕ) (es : List Entry) (t : Table) (order : List ℕ) (g : Good opening es t) (e : first (closeConditions t) ≡ 0) where
-  cards-are : cardsOfHistory (t .options) opening es ≡ c t (g .shaped) (g .sound) e
+  cards-are : cardsOfHistory (t .options) opening es ≡ cardsAt t
   cards-are =
       let a = g .agrees .cards in
-      λ i. makeCards (sym (a .order) i) (sym (a .fresh) i) (sym (a .taken) i) ((sym (a .bank) ∙ one-bank t (g .shaped) (g .sound) e) i)
+      λ i. makeCards (sym (a .order) i) (sym (a .fresh) i) (sym (a .taken) i) ((sym (a .bank) ∙ one-bank t (g .sound) (close-dealt t e) (close-stands t e)) i)
 
   score-is : closingScore (t .options) opening es ≡ closeScore t
-  score-is = ap scoreOf (ap (bankFinal (t .options)) cards-are ∙ sym (final-same t (g .shaped) (g .sound) e))
+  score-is = ap scoreOf (ap (bankFinal (t .options)) cards-are ∙ sym (final-same t (g .sound) (close-dealt t e) (close-stands t e)))
 
   closes : Ends (entry Close order)
   unfolding all
@@ -216,13 +140,13 @@ module _ (opening : List ℕ) (es : List Entry) (t : Table) (order : List ℕ) (
       (diff-add (diff-pos (laid s)) (diff-add (nets-diff (t .options) opening (closeScore t) (stake s) (hands s)) (insurance-diff (closeScore t) (insurance s)))))
       (a .purse-is) (omega (arith, all-laid t (g .shaped) (g .sound) e i))
 
-  call : EndCall opening es t (entry Close order) (t .tray + layout t - sum (seatBack (t .options) (closeScore t)) (t .seats)) (paid t (g .shaped) (g .sound) e) (discard (drawn (t .shoe) (closeTakes t)) (cards t (g .shaped) (g .sound) e)) (closeTakes t) (cards t (g .shaped) (g .sound) e)
+  call : EndCall opening es t (entry Close order) (t .tray + layout t - sum (seatBack (t .options) (closeScore t)) (t .seats)) (paid t (g .shaped) (g .sound) e) (discard (drawn (t .shoe) (closeTakes t)) (closedCards t)) (closeTakes t) (closedCards t)
   unfolding callTakes
   call =
       record {
         ends = closes;
-        takes = omega (arith, ap (bankTaken (t .options)) cards-are, takes t (g .shaped) (g .sound) e, burns-same (t .options) (tableOrder t) (isFresh (t .shoe)) (t .shoe .drawn) (up t));
-        same-fresh = ne-eqb (t .shoe .drawn + closeTakes t) 0 (λ z. omega (arith, dealt-drawn t (g .sound) (dealt t (g .shaped) (g .sound) e))) ∙ sym (ne-eqb (t .shoe .drawn) 0 (λ z. omega (arith, dealt-drawn t (g .sound) (dealt t (g .shaped) (g .sound) e))));
+        takes = omega (arith, ap (bankTaken (t .options)) cards-are, takes t (g .sound) (close-dealt t e) (close-stands t e), burns-same (t .options) (tableOrder t) (isFresh (t .shoe)) (t .shoe .drawn) (up t));
+        same-fresh = ne-eqb (t .shoe .drawn + closeTakes t) 0 (λ z. omega (arith, dealt-drawn t (g .sound) (close-dealt t e))) ∙ sym (ne-eqb (t .shoe .drawn) 0 (λ z. omega (arith, dealt-drawn t (g .sound) (close-dealt t e))));
         purses = purses;
       }
 

@@ -1,18 +1,21 @@
 -- What goes back to a seat at close, against the history's nets: a net is what goes back less what lay there.
 use mathlib.Core.Path.{_≡_, refl, subst₂}
-use mathlib.Core.Bool.{Bool, true}
+use mathlib.Core.Bool.{Bool, true, false}
 use mathlib.Core.List.{List, [], _∷_}
 use Prim.Native.Nat.{ℕ, _+_, _≤_}
 use native.Mathlib.Decide.{decLe}
+use native.Mathlib.Nat.{le-refl}
 use native.Mathlib.Omega.{arith}
+use lib.Dec.{eqb}
 use lib.IntN.{ℤ}
 use lib.ListN.{length}
-use borrow.Author.Tests.{ne-eqb}
+use borrow.Author.Tests.{eqb-true, ne-eqb}
 use Rattle.lists.specs.Sum.{sum}
+use Rattle.lists.proofs.Sums.{sum-none}
 use Rattle.lists.proofs.Differences.{Diff, diff-pos, diff-add, diff-sub}
 use Rattle.options.specs.declared.Options.{Options}
 use Rattle.bank.specs.declared.Score.{Score}
-use Rattle.standing.specs.SeatHand.{Played}
+use Rattle.standing.specs.SeatHand.{Played, playedOf}
 use Rattle.payment.specs.declared.pay.Pay.{Pay}
 use Rattle.stakes.specs.Wager.{wager}
 use Rattle.payment.specs.Pay.{net}
@@ -20,7 +23,7 @@ use Rattle.payment.specs.HandPay.{handPay}
 use Rattle.payment.specs.Insurance.{insurancePay}
 use Rattle.cover.proofs.Bounds.{seat-cover}
 use Rattle.table.specs.declared.Seat.{Seat}
-use Rattle.table.specs.Seat.{stake, insurance, hands, laid, prizes, seatCover}
+use Rattle.table.specs.Seat.{noPlace, stake, insurance, hands, laid, prizes, seatCover}
 use Rattle.table.specs.Sound.{SoundSeat}
 use Rattle.table.proofs.Facts.{insurance-most, few-hands, most-many, hands-many, no-hands}
 use Rattle.history.specs.Money.{handNets}
@@ -63,7 +66,19 @@ module _ (o : Options) (ace : Bool) (i : ℕ) (s : Seat) (sound : SoundSeat o tr
           let many = hands-many s four (most-many o true ace i s few sound) in
           simp (ne-eqb (length (hands s)) 0 (λ none. omega arith))
 
-  pub back-most : length (s .hands .places) ≡ 4 → o .hands ≤ 4 → (bank : Score) → seatBack o bank s + prizes o s ≤ laid s + seatCover s
+  -- whatever the length of its places, those are at most what it laid
+  wagers-most : sum (wager (stake s)) (hands s) + insurance s ≤ laid s
+  unfolding laid
+  wagers-most = go (eqb (length (hands s)) 0) refl
+    where
+      go : (none : Bool) → eqb (length (hands s)) 0 ≡ none → sum (wager (stake s)) (hands s) + insurance s ≤ laid s
+      go true e =
+          let empty : length (hands s) ≡ 0 = eqb-true (length (hands s)) 0 e in
+          simp e (omega (arith, insured-most, sum-none (wager (stake s)) (hands s) (playedOf noPlace) (λ p h. absurd (omega arith))))
+      go false e = simp e (le-refl (sum (wager (stake s)) (hands s) + insurance s))
+
+  -- so what goes back to it, with its prizes, is at most what it laid and its cover
+  pub back-most : o .hands ≤ 4 → (bank : Score) → seatBack o bank s + prizes o s ≤ laid s + seatCover s
   unfolding seatBack prizes
-  back-most four few bank =
-      omega (arith, seat-cover o bank (stake s) (hands s) (insurance s) (few-hands o true ace i s few sound) insured-most, laid-wagers four few)
+  back-most few bank =
+      omega (arith, seat-cover o bank (stake s) (hands s) (insurance s) (few-hands o true ace i s few sound) insured-most, wagers-most)

@@ -1,4 +1,5 @@
 -- Close: the bank's cards, the pay lines and the end of the round.
 pub mod BankDraw
 pub mod Lines
+pub mod EachOnce
 pub mod Close

@@ -1,2 +1,3 @@
--- Laws of a new shoe that its loop cites.
+-- Laws of a new shoe and of the cards left, as loops cite them.
 pub mod Filled
+pub mod Left

@@ -1,8 +1,5 @@
-// The money of all seats, summed in one pass, and what the calls ask of it. Every table is taken: a damaged purse is cut before it is added, so no sum wraps.
+// The money of all seats, summed in one pass. Every table is taken: a damaged purse is cut before it is added, so no sum wraps.
 ghost use mathlib.Core.Path.{_≡_};
-ghost use Prim.Native.Nat.{_+_};
-ghost use lib.Dec.{ltb};
-ghost use Rattle.table.specs.Money.{limit, pastLimit};
 ghost use Rattle.sums.specs.Sums.{capped, seatSums, plusSums, tableSums};
 ghost use Rattle.sums.specs.Within.{Within};
 use cover::cover;
@@ -13,7 +10,7 @@ use table::Seat;
 use table::Table;
 
 // All money on a table is at most 10^15.
-const LIMIT: u64 = 1000000000000000;
+pub const LIMIT: u64 = 1000000000000000;
 
 // What the seats have laid, their prizes, what the tray must hold for them, and what is in their purses.
 pub struct Sums {
@@ -75,37 +72,4 @@ pub fn table_sums(t: Table) -> Sums
         all = plus(all, one);
     }
     all
-}
-
-// Whether tray, layout, purses and n more are past the limit. Each is tested first, so that their sum does not wrap.
-pub fn over_limit(tray: u64, m: Sums, n: u64) -> bool
-    ensures { λ r. ⌜ r ≡ ltb limit (tray + m .laid + m .purses + n) ⌝ }
-{
-    if LIMIT < tray {
-        return true;
-    }
-    if LIMIT < m.laid {
-        return true;
-    }
-    if LIMIT < m.purses {
-        return true;
-    }
-    if LIMIT < n {
-        return true;
-    }
-    LIMIT < tray + m.laid + m.purses + n
-}
-
-// Whether the table's money with n more is past the limit.
-pub fn past_limit(t: Table, n: u64) -> bool
-    ensures { λ r. ⌜ r ≡ pastLimit t n ⌝ }
-{
-    over_limit(t.tray, table_sums(t), n)
-}
-
-// Whether some seat has a stake: then there is something to cover.
-pub fn some_staked(m: Sums) -> bool
-    ensures { λ r. ⌜ r ≡ ltb 0 (m .cover) ⌝ }
-{
-    0 < m.cover
 }

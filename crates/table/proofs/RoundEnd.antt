@@ -5,12 +5,13 @@ use mathlib.Core.Bool.{false, true≢false}
 use mathlib.Core.List.{List, _++_, map}
 use Prim.Native.Nat.{ℕ, _+_, _*_, _≤_, _<_}
 use native.Mathlib.Omega.{arith}
-use lib.ListN.{length, take, drop, getD, length-take, length-drop, length-map, length-append, List·getD-map, getD-replicate}
-use lib.Seq.{sets, take-add, take-at, sets-eq, length-sets, length-take-le}
+use lib.ListN.{length, take, getD, length-take, length-drop, length-map, List·getD-map, getD-replicate}
+use lib.Seq.{sets, take-add, length-sets}
 use Rattle.lists.specs.Sum.{sum, isIt}
 use Rattle.lists.specs.Flat.{flat}
 use Rattle.lists.proofs.Sums.{sum-append, sum-map, sum-none, sum-ones}
 use Rattle.lists.proofs.Places.{getD-any}
+use Rattle.lists.proofs.Stores.{sets-taken}
 use Rattle.cards.specs.Card.{isAce}
 use Rattle.hands.specs.Hand.{emptyHand}
 use Rattle.options.specs.declared.Options.{Options}
@@ -64,12 +65,6 @@ cleared-cards w purse-of s = refl
 pub cleared-at : (purse-of : Seat → ℕ) (seats : List Seat) (i : ℕ) → i < length seats → getD (map (cleared purse-of) seats) i noSeat ≡ cleared purse-of (getD seats i noSeat)
 cleared-at purse-of seats i h = getD-any (map (cleared purse-of) seats) i noSeat (cleared purse-of noSeat) (omega (arith, length-map seats (cleared purse-of))) ∙ List·getD-map (cleared purse-of) seats i noSeat
 
--- discards behind the others, where there is room
-pub discards-more : (discards : List ℕ) (n : ℕ) (cards : List ℕ) → n + length cards ≤ length discards → take (n + length cards) (sets discards n cards) ≡ take n discards ++ cards
-discards-more discards n cards room =
-    ap (take (n + length cards)) (sets-eq cards discards n room)
-    ∙ take-at (take n discards ++ cards) (drop (n + length cards) discards) (n + length cards) (omega (arith, length-append (take n discards) cards, length-take-le n discards (omega arith)))
-
 cleared-shaped : (purse-of : Seat → ℕ) (s : Seat) → ShapedSeat (cleared purse-of s)
 cleared-shaped purse-of s = record { four-places = refl; twenty-cards = λ p h. ap (λ (x : SeatHand). length (x .hand .cards)) (getD-replicate 4 p emptyPlace noPlace h) }
 
@@ -85,7 +80,7 @@ module _ (t : Table) (tray : ℕ) (purse-of : Seat → ℕ) (shoe : Shoe) (k : �
       omega (arith, end .cards-moved (λ x. 1), all-drawn, sum-ones cards, sum-ones (handCards t ++ bankCards t), sum-ones (take k (tableShoe t)), room-discards t (shaped .discards) sound)
 
   discards-after : discardsOf shoe ≡ tableDiscards t ++ cards
-  discards-after = rw (end .more-discarded, end .more-discards) (discards-more (t .shoe .discards) (t .shoe .discarded) cards (omega (arith, room, decks-416 t sound, end .enough, shaped .discards)))
+  discards-after = rw (end .more-discarded, end .more-discards) (sets-taken (t .shoe .discards) (t .shoe .discarded) cards (omega (arith, room, decks-416 t sound, end .enough, shaped .discards)))
 
   pub end-shaped : Shaped after
   end-shaped = record {

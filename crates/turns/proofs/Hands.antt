@@ -1,20 +1,18 @@
--- The walk over the hands of the seats of a table, seat by seat, and the place in the seat that it finds.
-use mathlib.Core.Path.{_≡_, sym, _∙_, ap}
+-- The walk over the hands of the seats of a table, seat by seat.
+use mathlib.Core.Path.{_≡_, _∙_, ap}
 use mathlib.Core.Bool.{Bool, true, false}
 use mathlib.Core.List.{List, []}
-use Prim.Native.Nat.{ℕ, _+_, _≤_, _<_}
+use Prim.Native.Nat.{ℕ, _+_, _<_}
 use native.Mathlib.Numerals.{add-one}
 use native.Mathlib.Omega.{arith}
-use lib.ListN.{length, take, getD, length-map, List·getD-map, List·getD-eq-default}
+use lib.ListN.{length, take, getD, length-map, List·getD-map}
 use lib.Seq.{take-all}
 use Rattle.lists.specs.Tests.{any, firstPlace}
 use Rattle.lists.proofs.Tests.{any-take, first-here, first-none}
 use Rattle.standing.specs.SeatHand.{Played}
 use Rattle.table.specs.declared.Table.{Table}
 use Rattle.table.specs.Seat.{noSeat, hands}
-use Rattle.table.specs.Table.{seatAt, seatsHands, up}
-use Rattle.turn.specs.Turn.{waitingPlace}
-use Rattle.turns.specs.Turns.{whoseSeat, whosePlace}
+use Rattle.table.specs.Table.{seatAt, seatsHands}
 
 pub hands-of : (t : Table) (i : ℕ) → getD (seatsHands t) i [] ≡ hands (seatAt t i)
 hands-of t i = List·getD-map hands (t .seats) i noSeat
@@ -35,14 +33,3 @@ module _ (t : Table) (full : length (t .seats) ≡ 9) where
     -- no seat passes
     pub none-found : i ≡ 9 → firstPlace test (seatsHands t) ≡ 9
     none-found all = first-none test (seatsHands t) (rw (take-all i (seatsHands t) (omega (arith, nine-seats))) at none) ∙ nine-seats
-
-  -- past the seats there is no hand, so the first place is 0
-  pub place-past : (i : ℕ) → i ≡ whoseSeat t → 9 ≤ i → 0 ≡ whosePlace t
-  unfolding firstPlace
-  place-past i e h =
-      sym (ap (waitingPlace (t .options) (up t)) (ap (λ (k : ℕ). getD (seatsHands t) k []) (sym e) ∙ List·getD-eq-default (seatsHands t) [] (omega (arith, nine-seats))))
-
-pub place-here : (t : Table) (i card : ℕ) → i ≡ whoseSeat t → card ≡ up t → waitingPlace (t .options) card (hands (seatAt t i)) ≡ whosePlace t
-place-here t i card e f =
-    ap (λ (u : ℕ). waitingPlace (t .options) u (hands (seatAt t i))) f
-    ∙ ap (waitingPlace (t .options) (up t)) (sym (hands-of t i) ∙ ap (λ (k : ℕ). getD (seatsHands t) k []) e)

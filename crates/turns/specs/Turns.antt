@@ -1,17 +1,13 @@
 -- Whose turn it is at a table: the rule of a seat's hands, read over the hands of all seats.
 use mathlib.Core.Bool.{Bool}
 use Prim.Native.Nat.{ℕ}
-use Rattle.turn.specs.Turn.{turnSeat, turnPlace, someWaits}
+use Rattle.turn.specs.Turn.{turnSeat, someWaits}
 use Rattle.table.specs.declared.Table.{Table}
 use Rattle.table.specs.Table.{seatsHands, up}
 
 -- The seat; 9 where nobody's turn it is.
 abbrev pub whoseSeat : Table → ℕ
 whoseSeat t = turnSeat (t .options) (up t) (seatsHands t)
-
--- The place in that seat; 0 where nobody's turn it is.
-abbrev pub whosePlace : Table → ℕ
-whosePlace t = turnPlace (t .options) (up t) (seatsHands t)
 
 -- Some hand on the table waits.
 abbrev pub anyWaits : Table → Bool

@@ -1,10 +1,9 @@
-// Whose turn it is, over the whole table. Every table is taken, a damaged count too.
+// The seat whose turn it is, over the whole table. Every table is taken, a damaged count too.
 ghost use mathlib.Core.Path.{_≡_};
-ghost use Rattle.turns.specs.Turns.{whoseSeat, whosePlace, anyWaits};
+ghost use Rattle.turns.specs.Turns.{whoseSeat, anyWaits};
 use round::up;
 use table::Table;
 use turn::seat_waits;
-use turn::waiting_place;
 
 // The first seat with a waiting hand, or 9 where no hand waits.
 pub fn turn_seat(t: Table) -> usize
@@ -20,21 +19,6 @@ pub fn turn_seat(t: Table) -> usize
         }
     }
     9
-}
-
-// The place of the first waiting hand in that seat, or 0 where no hand waits.
-pub fn turn_place(t: Table) -> usize
-    ensures { λ r. ⌜ r ≡ whosePlace t ⌝ }
-{
-    let i = turn_seat(t);
-    if 9 <= i {
-        return 0;
-    }
-    let o = t.options;
-    let card = up(t);
-    let s = t.seats[i];
-    let hands = s.hands;
-    waiting_place(o, card, hands)
 }
 
 // Whether some hand on the table waits.

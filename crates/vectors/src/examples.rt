@@ -1,41 +1,11 @@
 // What an example is made of, as the table writes it: cards, hands, and the house's options.
-ghost use Prim.Native.Nat.{_<_};
 use hands::hand::Hand;
 use hands::hand::empty_hand;
 use hands::hand::with_card;
 use options::Options;
+use script::card;
+use script::digit;
 use standing::seat_hand::SeatHand;
-
-pub fn digit(letter: u8) -> u8 {
-    if letter < b'0' {
-        return 0;
-    }
-    letter - b'0'
-}
-
-fn rank(letter: u8) -> u8
-    ensures { λ r. ⌜ r < 13 ⌝ }
-{
-    match letter {
-        b'2'..=b'9' => letter - b'1',
-        b'T' => 9,
-        b'J' => 10,
-        b'Q' => 11,
-        b'K' => 12,
-        _ => 0,
-    }
-}
-
-// The card of a rank (A, 2 to 9, T, J, Q, K) and a suit (a to d).
-pub fn card(rank_letter: u8, suit: u8) -> u8 {
-    let first = rank(rank_letter);
-    match suit {
-        b'b' => 13 + first,
-        b'c' => 26 + first,
-        b'd' => 39 + first,
-        _ => first,
-    }
-}
 
 // The hand of the cards that stand two letters each, up to the first space.
 pub fn hand_of(cards: &[u8]) -> Hand {

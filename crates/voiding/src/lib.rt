@@ -19,8 +19,6 @@ use options::Options;
 use outcome::Outcome;
 use seat_money::laid;
 use seat_money::prizes;
-use seats::with_seat;
-use sums::some_staked;
 use sums::table_sums;
 use table::Seat;
 use table::Table;
@@ -52,7 +50,7 @@ fn void_seats(t: Table) -> Table
     let mut next = t;
     for i in 0usize..9 {
         let s = t.seats[i];
-        next = with_seat(next, i, void_seat(o, s));
+        next.seats[i] = void_seat(o, s);
     }
     next
 }
@@ -81,7 +79,8 @@ fn void_number(t: Table) -> u8
     if broken(t) {
         return 1;
     }
-    if !some_staked(table_sums(t)) {
+    let sums = table_sums(t);
+    if sums.cover == 0 {
         return 6;
     }
     0

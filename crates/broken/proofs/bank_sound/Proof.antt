@@ -1,16 +1,10 @@
 -- The tests are the definition's; some seat has a stake exactly if there is something to cover.
-use mathlib.Core.Path.{sym, ap, _∙_}
-use lib.Dec.{ltb}
-use borrow.Author.Needs.{needs}
+use mathlib.Core.Path.{sym}
 use borrow.Author.Tests.{eq-eqb, ne-eqb}
 use Rattle.table.specs.Broken.{soundBank}
-use Rattle.sums.specs.declared.Sums.{Sums}
 use Rattle.sums.proofs.Capping.{some-cover}
 use Rattle.broken.proofs.bank_sound.Statement.{statement}
 use Rattle.broken.proofs.bank_sound.Tie as tie
-
-some-staked-requires : tie.Need-some-staked-requires
-some-staked-requires c κs = search needs
 
 returns : tie.Need-returns
 unfolding soundBank
@@ -21,11 +15,11 @@ unfolding soundBank
 returns-2 c =
     let start = c .before .before .before .before .before .before in
     simp (ne-eqb _ _ (c .before .before .before .if1 .left), eq-eqb _ _ (c .before .if2 .taken))
-    (c .some-staked .ensures ∙ ap (λ (m : Sums). ltb 0 (m .cover)) (start .pre) ∙ sym (some-cover (start .args .t .seats)))
+    (sym (some-cover (start .args .t) (start .args .m) (start .pre)))
 
 returns-3 : tie.Need-returns-3
 unfolding soundBank
 returns-3 c = simp (ne-eqb _ _ (c .before .before .if1 .left), ne-eqb _ _ (c .if2 .left))
 
 pub bank-sound-spec : {M : Type 1} → statement M
-bank-sound-spec = tie.close (tie.spec some-staked-requires returns returns-2 returns-3)
+bank-sound-spec = tie.close (tie.spec returns returns-2 returns-3)

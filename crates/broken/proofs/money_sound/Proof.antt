@@ -1,7 +1,7 @@
 -- The sums are the table's: capped purses change no test of the limit, and a difference is compared as the sum is.
 use mathlib.Core.Path.{_≡_, sym, ap, _∙_}
-use mathlib.Core.Bool.{Bool, true, not, and-true}
-use Prim.Native.Nat.{ℕ, _+_, _≤_}
+use mathlib.Core.Bool.{Bool, true, not}
+use Prim.Native.Nat.{_+_, _≤_}
 use native.Mathlib.Nat.{add-zero}
 use native.Mathlib.Omega.{arith}
 use lib.Dec.{ltb, leb}
@@ -10,7 +10,7 @@ use borrow.Author.Tests.{le-leb, not-true, not-false}
 use Rattle.lists.proofs.Tests.{leb-not, leb-past}
 use Rattle.table.specs.declared.Table.{Table}
 use Rattle.table.specs.Table.{isDealt}
-use Rattle.table.specs.Money.{limit, layout, allMoney, allPrizes, allCover}
+use Rattle.table.specs.Money.{limit, layout, allMoney}
 use Rattle.table.specs.Broken.{soundMoney}
 use Rattle.sums.specs.declared.Sums.{Sums}
 use Rattle.sums.specs.Sums.{tableSums}

@@ -1,36 +1,33 @@
--- `burn` goes card by card: before each turn the first i cards that are left are discards.
-use mathlib.Core.Path.{_≡_, _∙_, ap}
-use mathlib.Core.List.{[], _∷_}
-use Prim.Native.Nat.{ℕ, _+_, _-_, _*_, _≤_}
+-- `burn` goes card by card: before each turn the first i cards that are left are in the array of the discards. At the end they are counted.
+use mathlib.Core.Path.{_≡_, sym, _∙_, ap}
+use Prim.Native.Nat.{ℕ, _-_, _*_, _≤_}
 use native.Mathlib.Omega.{arith}
 use borrow.Author.Needs.{needs}
-use lib.ListN.{length, take, getD}
-use Rattle.table.specs.Shoe.{leftOf, discard}
-use Rattle.discards.proofs.Discards.{discard-none, discard-more, room-more}
-use Rattle.burns.proofs.Left.{left-more, left-taken}
+use lib.ListN.{length, take}
+use lib.Seq.{sets, length-take-le}
+use Rattle.table.specs.Shoe.{leftOf}
+use Rattle.shoe.proofs.Left.{left-length, left-at}
+use Rattle.discards.proofs.Discards.{card-next, discard-stored}
 use Rattle.burns.proofs.burn.Statement.{statement}
 use Rattle.burns.proofs.burn.Tie as tie
 
 abbrev Inv-loop : tie.InvT-loop
-Inv-loop sh decks n next₀ i₀ next i = (i ≤ n) × (next ≡ discard sh (take i (leftOf decks sh)))
+Inv-loop sh decks n at discards₀ i₀ discards i = (i ≤ n) × (discards ≡ sets (sh .discards) (sh .discarded) (take i (leftOf decks sh)))
 
 abbrev μ-loop : tie.MeasureT-loop
-μ-loop sh decks n next₀ i₀ next i = n - i
+μ-loop sh decks n at discards₀ i₀ discards i = n - i
 
 loop-holds : tie.Need-loop-holds Inv-loop μ-loop
-loop-holds c = (omega arith, discard-none (c .args .sh))
+loop-holds c = search needs
 
 card-ahead-requires : tie.Need-card-ahead-requires Inv-loop μ-loop
 card-ahead-requires c κs = search needs
 
-discard-card-requires : tie.Need-discard-card-requires Inv-loop μ-loop
-discard-card-requires c κs =
-    let at = c .before .before in
-    let sh = at .before .args .sh in
-    let decks = at .before .args .decks in
-    let full : length (sh .order) ≡ 416 = search needs in
-    room-more sh (at .loop .next) (take (at .loop .i) (leftOf decks sh)) (0 ∷ []) (at .loop .inv .1)
-    (omega (arith, left-taken (sh .order) (52 * decks) (omega arith) (sh .drawn) (at .loop .i) (omega arith)))
+add-discards : tie.Need-add-discards Inv-loop μ-loop
+add-discards c = omega arith
+
+array-write-discards : tie.Need-array-write-discards Inv-loop μ-loop
+array-write-discards c = omega arith
 
 add-i : tie.Need-add-i Inv-loop μ-loop
 add-i c = omega arith
@@ -40,23 +37,27 @@ loop-less c = omega arith
 
 loop-again : tie.Need-loop-again Inv-loop μ-loop
 loop-again c =
-    let at = c .before .before .before in
-    let sh = at .before .args .sh in
-    let decks = at .before .args .decks in
+    let at = c .before .before in
+    let a = at .before .before .args in
+    let sh = a .sh in
     let i = at .loop .i in
-    let full : length (sh .order) ≡ 416 = search needs in (
-      omega arith,
-      c .discard-card .ensures
-          ∙ ap (λ (card : ℕ). discard (at .loop .next) (card ∷ [])) (c .before .card-ahead .ensures)
-          ∙ discard-more sh (at .loop .next) (take i (leftOf decks sh)) (getD (sh .order) (sh .drawn + i) 0 ∷ []) (at .loop .inv .1) (take (i + 1) (leftOf decks sh)) (left-more (sh .order) (52 * decks) (omega arith) (sh .drawn) i (omega arith)),
-    )
+    let full : length (sh .order) ≡ 416 = search needs in
+    let card = c .card-ahead .ensures ∙ sym (left-at (sh .order) (52 * a .decks) (omega arith) (sh .drawn) i (omega arith)) in
+    (omega arith, card-next (sh .discards) (sh .discarded) (leftOf (a .decks) sh) i (at .loop .discards) (c .card-ahead .result) (omega (arith, left-length (sh .order) (52 * a .decks) (omega arith) (sh .drawn))) (at .loop .inv .1) card)
+
+add-next : tie.Need-add-next Inv-loop μ-loop
+add-next c = omega arith
 
 returns : tie.Need-returns Inv-loop μ-loop
 returns c =
     let at = c .before in
-    let sh = at .before .args .sh in
-    let all : at .loop .i ≡ at .before .args .n = omega arith in
-    at .loop .inv .1 ∙ ap (λ (k : ℕ). discard sh (take k (leftOf (at .before .args .decks) sh))) all
+    let a = at .before .before .args in
+    let sh = a .sh in
+    let left = leftOf (a .decks) sh in
+    let full : length (sh .order) ≡ 416 = search needs in
+    let all : at .loop .i ≡ a .n = omega arith in
+    discard-stored sh (at .loop .discards) (take (a .n) left) (a .n) (at .loop .inv .1 ∙ ap (λ (k : ℕ). sets (sh .discards) (sh .discarded) (take k left)) all)
+    (sym (length-take-le (a .n) left (omega (arith, left-length (sh .order) (52 * a .decks) (omega arith) (sh .drawn)))))
 
 pub burn-spec : {M : Type 1} → statement M
 burn-spec =
@@ -66,8 +67,10 @@ burn-spec =
     μ-loop
     loop-holds
     card-ahead-requires
-    discard-card-requires
+    add-discards
+    array-write-discards
     add-i
     loop-less
     loop-again
+    add-next
     returns)

@@ -3,10 +3,11 @@ use mathlib.Core.Path.{sym, _∙_, ap, ap₂}
 use Prim.Native.Nat.{ℕ}
 use lib.Dec.{ltb, leb}
 use borrow.Author.Needs.{needs}
-use borrow.Author.Tests.{lt-ltb, le-ltb, le-leb, lt-leb, not-true, not-false}
+use borrow.Author.Tests.{lt-ltb, le-ltb, le-leb, lt-leb}
 use Rattle.call.specs.Refusal.{first}
+use Rattle.sums.proofs.Capping.{none-staked, is-staked}
 use Rattle.dealing.specs.Deal.{dealConditions}
-use Rattle.deal.proofs.Asked.{staked-is, covered-is}
+use Rattle.deal.proofs.Asked.{covered-is}
 use Rattle.deal.proofs.deal_number.Statement.{statement}
 use Rattle.deal.proofs.deal_number.Tie as tie
 
@@ -31,9 +32,6 @@ returns-2 c =
 table-sums-requires : tie.Need-table-sums-requires
 table-sums-requires c κs = search needs
 
-some-staked-requires : tie.Need-some-staked-requires
-some-staked-requires c κs = search needs
-
 returns-3 : tie.Need-returns-3
 unfolding dealConditions first
 returns-3 c =
@@ -41,7 +39,7 @@ returns-3 c =
     simp (
       sym (c .before .before .before .before .before .before .broken .ensures) ∙ c .before .before .before .before .before .if1 .left,
       sym (c .before .before .before .before .is-dealt .ensures) ∙ c .before .before .before .if2 .left,
-      staked-is t (c .before .before .table-sums .result) (c .before .some-staked .result) (c .before .before .table-sums .ensures) (c .before .some-staked .ensures) ∙ not-true _ (c .if3 .taken),
+      none-staked t (c .before .before .table-sums .result) (c .before .before .table-sums .ensures) (c .if3 .taken),
     )
 
 returns-4 : tie.Need-returns-4
@@ -51,7 +49,7 @@ returns-4 c =
     simp (
       sym (c .before .before .before .before .before .before .before .before .before .broken .ensures) ∙ c .before .before .before .before .before .before .before .before .if1 .left,
       sym (c .before .before .before .before .before .before .before .is-dealt .ensures) ∙ c .before .before .before .before .before .before .if2 .left,
-      staked-is t (c .before .before .before .before .before .table-sums .result) (c .before .before .before .before .some-staked .result) (c .before .before .before .before .before .table-sums .ensures) (c .before .before .before .before .some-staked .ensures) ∙ not-false _ (c .before .before .before .if3 .left),
+      is-staked t (c .before .before .before .before .before .table-sums .result) (c .before .before .before .before .before .table-sums .ensures) (c .before .before .before .if3 .left),
       covered-is t (c .before .before .before .before .before .table-sums .result) (c .before .before .before .before .before .table-sums .ensures) ∙ lt-ltb _ _ (c .if4 .taken),
     )
 
@@ -68,7 +66,7 @@ returns-5 c =
     simp (
       sym (c .before .before .before .before .before .before .before .before .before .before .before .before .before .broken .ensures) ∙ c .before .before .before .before .before .before .before .before .before .before .before .before .if1 .left,
       sym (c .before .before .before .before .before .before .before .before .before .before .before .is-dealt .ensures) ∙ c .before .before .before .before .before .before .before .before .before .before .if2 .left,
-      staked-is t (c .before .before .before .before .before .before .before .before .before .table-sums .result) (c .before .before .before .before .before .before .before .before .some-staked .result) (c .before .before .before .before .before .before .before .before .before .table-sums .ensures) (c .before .before .before .before .before .before .before .before .some-staked .ensures) ∙ not-false _ (c .before .before .before .before .before .before .before .if3 .left),
+      is-staked t (c .before .before .before .before .before .before .before .before .before .table-sums .result) (c .before .before .before .before .before .before .before .before .before .table-sums .ensures) (c .before .before .before .before .before .before .before .if3 .left),
       covered-is t (c .before .before .before .before .before .before .before .before .before .table-sums .result) (c .before .before .before .before .before .before .before .before .before .table-sums .ensures) ∙ le-ltb _ _ (c .before .before .before .before .if4 .left),
       ap (λ (n : ℕ). leb n (t .options .cut)) (sym (c .before .before .cards-left .ensures)) ∙ le-leb _ _ (c .if5 .taken),
     )
@@ -83,7 +81,7 @@ returns-6 c =
     simp (
       sym (c .before .before .before .before .before .before .before .before .before .before .before .before .before .before .before .broken .ensures) ∙ c .before .before .before .before .before .before .before .before .before .before .before .before .before .before .if1 .left,
       sym (c .before .before .before .before .before .before .before .before .before .before .before .before .before .is-dealt .ensures) ∙ c .before .before .before .before .before .before .before .before .before .before .before .before .if2 .left,
-      staked-is t (c .before .before .before .before .before .before .before .before .before .before .before .table-sums .result) (c .before .before .before .before .before .before .before .before .before .before .some-staked .result) (c .before .before .before .before .before .before .before .before .before .before .before .table-sums .ensures) (c .before .before .before .before .before .before .before .before .before .before .some-staked .ensures) ∙ not-false _ (c .before .before .before .before .before .before .before .before .before .if3 .left),
+      is-staked t (c .before .before .before .before .before .before .before .before .before .before .before .table-sums .result) (c .before .before .before .before .before .before .before .before .before .before .before .table-sums .ensures) (c .before .before .before .before .before .before .before .before .before .if3 .left),
       covered-is t (c .before .before .before .before .before .before .before .before .before .before .before .table-sums .result) (c .before .before .before .before .before .before .before .before .before .before .before .table-sums .ensures) ∙ le-ltb _ _ (c .before .before .before .before .before .before .if4 .left),
       ap (λ (n : ℕ). leb n (t .options .cut)) (sym (c .before .before .before .before .cards-left .ensures)) ∙ lt-leb _ _ (c .before .before .if5 .left),
       ap₂ ltb (sym (c .before .before .before .before .cards-left .ensures)) (sym (c .before .deal-takes .ensures)) ∙ lt-ltb _ _ (c .if6 .taken),
@@ -96,7 +94,7 @@ returns-7 c =
     simp (
       sym (c .before .before .before .before .before .before .before .before .before .before .before .before .before .before .before .broken .ensures) ∙ c .before .before .before .before .before .before .before .before .before .before .before .before .before .before .if1 .left,
       sym (c .before .before .before .before .before .before .before .before .before .before .before .before .before .is-dealt .ensures) ∙ c .before .before .before .before .before .before .before .before .before .before .before .before .if2 .left,
-      staked-is t (c .before .before .before .before .before .before .before .before .before .before .before .table-sums .result) (c .before .before .before .before .before .before .before .before .before .before .some-staked .result) (c .before .before .before .before .before .before .before .before .before .before .before .table-sums .ensures) (c .before .before .before .before .before .before .before .before .before .before .some-staked .ensures) ∙ not-false _ (c .before .before .before .before .before .before .before .before .before .if3 .left),
+      is-staked t (c .before .before .before .before .before .before .before .before .before .before .before .table-sums .result) (c .before .before .before .before .before .before .before .before .before .before .before .table-sums .ensures) (c .before .before .before .before .before .before .before .before .before .if3 .left),
       covered-is t (c .before .before .before .before .before .before .before .before .before .before .before .table-sums .result) (c .before .before .before .before .before .before .before .before .before .before .before .table-sums .ensures) ∙ le-ltb _ _ (c .before .before .before .before .before .before .if4 .left),
       ap (λ (n : ℕ). leb n (t .options .cut)) (sym (c .before .before .before .before .cards-left .ensures)) ∙ lt-leb _ _ (c .before .before .if5 .left),
       ap₂ ltb (sym (c .before .before .before .before .cards-left .ensures)) (sym (c .before .deal-takes .ensures)) ∙ le-ltb _ _ (c .if6 .left),
@@ -111,7 +109,6 @@ deal-number-spec =
     is-dealt-requires
     returns-2
     table-sums-requires
-    some-staked-requires
     returns-3
     returns-4
     cards-left-requires

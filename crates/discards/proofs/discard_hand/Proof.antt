@@ -1,41 +1,42 @@
--- `discard_hand` goes card by card: before each turn the first i cards of the array are discards.
-use mathlib.Core.Path.{_≡_, _∙_, ap}
-use mathlib.Core.List.{[], _∷_, _++_}
-use Prim.Native.Nat.{_+_, _-_, _≤_, _<_}
-use native.Mathlib.Numerals.{add-one}
+-- `discard_hand` goes card by card: before each turn the first i cards are in the array of the discards. At the end they are counted.
+use mathlib.Core.Path.{_≡_, refl, _∙_, ap}
+use Prim.Native.Nat.{_-_, _≤_}
 use native.Mathlib.Omega.{arith}
 use borrow.Author.Needs.{needs}
-use lib.ListN.{length, take, getD, length-take}
-use lib.Seq.{take-suc, length-take-le}
+use lib.ListN.{length, take, length-take}
+use lib.Seq.{sets}
 use Rattle.lists.proofs.Takes.{take-clamped}
-use Rattle.table.specs.Shoe.{discard}
-use Rattle.discards.proofs.Discards.{discard-none, discard-more, room-more}
+use Rattle.hands.specs.Hand.{cardsOf}
+use Rattle.discards.proofs.Discards.{card-next, discard-stored}
 use Rattle.discards.proofs.discard_hand.Statement.{statement}
 use Rattle.discards.proofs.discard_hand.Tie as tie
 
 abbrev Inv-loop : tie.InvT-loop
-Inv-loop h n next₀ i₀ next i = (i ≤ n) × (next ≡ discard next₀ (take i (h .cards)))
+Inv-loop sh h n at discards₀ i₀ discards i = (i ≤ n) × (discards ≡ sets (sh .discards) (sh .discarded) (take i (h .cards)))
 
 abbrev μ-loop : tie.MeasureT-loop
-μ-loop h n next₀ i₀ next i = n - i
+μ-loop sh h n at discards₀ i₀ discards i = n - i
 
 held-requires : tie.Need-held-requires Inv-loop μ-loop
 held-requires c κs = search needs
 
 loop-holds : tie.Need-loop-holds Inv-loop μ-loop
-loop-holds c = (omega arith, discard-none (c .before .args .sh))
+loop-holds c = search needs
 
-element-copy-out-card : tie.Need-element-copy-out-card Inv-loop μ-loop
-element-copy-out-card c = omega arith
+element-copy-out-discards : tie.Need-element-copy-out-discards Inv-loop μ-loop
+element-copy-out-discards c = omega arith
 
-discard-card-requires : tie.Need-discard-card-requires Inv-loop μ-loop
-discard-card-requires c κs =
-    let at = c .before .before in
-    let h = at .before .before .args .t2 in
-    let sh = at .before .before .args .sh in
+add-discards : tie.Need-add-discards Inv-loop μ-loop
+add-discards c =
+    let start = c .before .before .before .before .before in
+    omega (arith, length-take (start .args .t2 .count) (start .args .t2 .cards), start .pre)
+
+array-write-discards : tie.Need-array-write-discards Inv-loop μ-loop
+array-write-discards c =
+    let start = c .before .before .before .before .before in
+    let h = start .args .t2 in
     let full : length (h .cards) ≡ 20 = search needs in
-    room-more sh (at .loop .next) (take (at .loop .i) (h .cards)) (0 ∷ []) (at .loop .inv .1)
-    (omega (arith, length-take-le (at .loop .i) (h .cards) (omega arith), length-take (h .count) (h .cards), at .before .before .pre))
+    omega (arith, length-take (h .count) (h .cards), start .pre)
 
 add-i : tie.Need-add-i Inv-loop μ-loop
 add-i c = omega arith
@@ -45,21 +46,29 @@ loop-less c = omega arith
 
 loop-again : tie.Need-loop-again Inv-loop μ-loop
 loop-again c =
-    let at = c .before .before .before in
-    let h = at .before .before .args .t2 in
-    let sh = at .before .before .args .sh in
-    let i = at .loop .i in
+    let at = c .before .before in
+    let start = at .before .before .before in
+    let sh = start .args .sh in
+    let h = start .args .t2 in
     let full : length (h .cards) ≡ 20 = search needs in
-    let inside : i < length (h .cards) = omega arith in
-    let next : take i (h .cards) ++ (getD (h .cards) i 0 ∷ []) ≡ take (i + 1) (h .cards) = rw (add-one, take-suc (h .cards) i 0) in
-    (omega arith, c .discard-card .ensures ∙ discard-more sh (at .loop .next) (take i (h .cards)) (getD (h .cards) i 0 ∷ []) (at .loop .inv .1) (take (i + 1) (h .cards)) next)
+    (omega arith, card-next (sh .discards) (sh .discarded) (h .cards) (at .loop .i) (at .loop .discards) _ (omega arith) (at .loop .inv .1) refl)
+
+add-next : tie.Need-add-next Inv-loop μ-loop
+add-next c =
+    let start = c .before .before .before .before in
+    let h = start .args .t2 in
+    let full : length (h .cards) ≡ 20 = search needs in
+    omega (arith, length-take (h .count) (h .cards), start .pre)
 
 returns : tie.Need-returns Inv-loop μ-loop
 returns c =
     let at = c .before in
-    let h = at .before .before .args .t2 in
+    let start = at .before .before .before in
+    let sh = start .args .sh in
+    let h = start .args .t2 in
     let full : length (h .cards) ≡ 20 = search needs in
-    at .loop .inv .1 ∙ ap (discard (at .before .before .args .sh)) (take-clamped (h .cards) (h .count) (at .loop .i) (omega arith))
+    let stored = at .loop .inv .1 ∙ ap (sets (sh .discards) (sh .discarded)) (take-clamped (h .cards) (h .count) (at .loop .i) (omega arith)) in
+    discard-stored sh (at .loop .discards) (cardsOf h) (at .before .before .held .result) stored (omega (arith, length-take (h .count) (h .cards)))
 
 pub discard-hand-spec : {M : Type 1} → statement M
 discard-hand-spec =
@@ -69,9 +78,11 @@ discard-hand-spec =
     μ-loop
     held-requires
     loop-holds
-    element-copy-out-card
-    discard-card-requires
+    element-copy-out-discards
+    add-discards
+    array-write-discards
     add-i
     loop-less
     loop-again
+    add-next
     returns)

@@ -1,5 +1,5 @@
 -- The turn's hand with the card; its origin stays.
-use mathlib.Core.Path.{ap, _∙_}
+use mathlib.Core.Path.{ap}
 use borrow.Author.Needs.{needs}
 use Rattle.standing.specs.declared.seat_hand.SeatHand.{SeatHand}
 use Rattle.drawing.specs.Grow.{grownBy}

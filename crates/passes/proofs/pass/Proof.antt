@@ -1,15 +1,13 @@
 -- `pass` goes seat by seat: before each turn the first i seats have had theirs, and n is behind the cards that they took.
-use mathlib.Core.Path.{_≡_, _∙_, ap}
-use mathlib.Core.Bool.{cond}
+use mathlib.Core.Path.{_≡_, _∙_, ap, ap₂}
 use mathlib.Core.List.{List}
 use Prim.Native.Nat.{_+_, _-_, _≤_}
 use native.Mathlib.Omega.{arith}
 use borrow.Author.Needs.{needs}
-use lib.ListN.{length, take, getD, set, length-map}
+use lib.ListN.{length, take, getD, length-map}
 use Rattle.lists.specs.Sum.{sum}
 use Rattle.table.specs.declared.Seat.{Seat}
 use Rattle.table.specs.declared.Table.{Table}
-use Rattle.table.specs.Seat.{isStaked}
 use Rattle.table.specs.Table.{makeTable, seatAt, withSeat}
 use Rattle.dealing.specs.Deal.{stakedSeats}
 use Rattle.passes.specs.Passed.{give, serve}
@@ -22,21 +20,24 @@ abbrev withSeats : Table → List Seat → Table
 withSeats t seats = makeTable (t .options) (t .tray) seats (t .bank) (t .shoe)
 
 abbrev Inv-loop : tie.InvT-loop
-Inv-loop t first at shoe next₀ n₀ i₀ next n i =
+Inv-loop first at t shoe next₀ n₀ i₀ next n i =
     (i ≤ 9)
     × (next ≡ withSeats t (before (give first) (t .shoe .order) (t .shoe .drawn + at) (t .seats) i))
     × (n ≡ at + stakedSeats (take i (t .seats)))
     × (n ≤ at + i)
 
 abbrev μ-loop : tie.MeasureT-loop
-μ-loop t first at shoe next₀ n₀ i₀ next n i = 9 - i
+μ-loop first at t shoe next₀ n₀ i₀ next n i = 9 - i
 
 loop-holds : tie.Need-loop-holds Inv-loop μ-loop
 unfolding sum
 loop-holds c = search needs
 
-seat-of-requires : tie.Need-seat-of-requires Inv-loop μ-loop
-seat-of-requires c κs = search needs
+mul-s : tie.Need-mul-s Inv-loop μ-loop
+mul-s c = omega arith
+
+element-copy-out-s : tie.Need-element-copy-out-s Inv-loop μ-loop
+element-copy-out-s c = omega arith
 
 card-ahead-requires : tie.Need-card-ahead-requires Inv-loop μ-loop
 card-ahead-requires c κs = search needs
@@ -44,14 +45,19 @@ card-ahead-requires c κs = search needs
 served-requires : tie.Need-served-requires Inv-loop μ-loop
 served-requires c κs = search needs
 
-with-seat-requires : tie.Need-with-seat-requires Inv-loop μ-loop
-with-seat-requires c κs = search needs
+mul-t12 : tie.Need-mul-t12 Inv-loop μ-loop
+mul-t12 c = omega arith
+
+element-set-from-next : tie.Need-element-set-from-next Inv-loop μ-loop
+element-set-from-next c = search needs
 
 taken-requires : tie.Need-taken-requires Inv-loop μ-loop
 taken-requires c κs = search needs
 
 add-n : tie.Need-add-n Inv-loop μ-loop
-add-n c = omega (arith, one-most (c .before .before .before .before .seat-of .result))
+add-n c =
+    let at = c .before .before .before .before .before in
+    omega (arith, one-most (seatAt (at .before .before .args .t1) (at .loop .i)))
 
 add-i : tie.Need-add-i Inv-loop μ-loop
 add-i c = omega arith
@@ -61,22 +67,18 @@ loop-less c = omega arith
 
 loop-again : tie.Need-loop-again Inv-loop μ-loop
 loop-again c =
-    let here = c .before .before .before .before .before .before in
-    let a = here .before .before .args in
-    let t = a .t in
+    let card = c .before .before in
+    let here = card .before .before .before in
+    let start = here .before .before in
+    let a = start .args in
+    let t = a .t1 in
     let i = here .loop .i in
     let n = here .loop .n in
-    let full : length (t .seats) ≡ 9 = simp length-map at (here .before .before .good .0 .1 .1 .1 .1 .0 .1 .0 .1) in
-    let seat = c .before .before .before .before .seat-of in
-    let card = c .before .before .before .card-ahead in
-    let one : c .taken .result ≡ cond (isStaked (seatAt t i)) 1 0 = c .taken .ensures ∙ ap (λ (s : Seat). cond (isStaked s) 1 0) (seat .ensures) in
-    let x : c .before .before .served .result ≡ serve (a .first) (seatAt t i) (getD (t .shoe .order) (t .shoe .drawn + n) 0)
-    = c .before .before .served .ensures ∙ ap (λ (s : Seat). serve (a .first) s (card .result)) (seat .ensures) ∙ ap (serve (a .first) (seatAt t i)) (card .ensures) in
-    let seats = before (give (a .first)) (t .shoe .order) (t .shoe .drawn + a .at) (t .seats) in (
+    let full : length (t .seats) ≡ 9 = simp length-map at (start .good .0 .1 .1 .1 .1 .0 .1 .0 .1) in
+    let x : c .before .served .result ≡ serve (a .first) (seatAt t i) (getD (t .shoe .order) (t .shoe .drawn + n) 0)
+    = c .before .served .ensures ∙ ap (serve (a .first) (seatAt t i)) (card .card-ahead .ensures) in (
       omega arith,
-      c .before .with-seat .ensures
-          ∙ ap (λ (u : Table). withSeat u i (c .before .before .served .result)) (here .loop .inv .1)
-          ∙ ap (λ (s : Seat). withSeats t (set (seats i) i s)) x
+      ap₂ (λ (u : Table) (s : Seat). withSeat u i s) (here .loop .inv .1) x
           ∙ ap (withSeats t) (serve-next (give (a .first)) (t .shoe .order) (t .shoe .drawn + a .at) (t .seats) i (t .shoe .drawn + n) (omega arith) (omega arith)),
       omega (arith, staked-next (t .seats) i (omega arith)),
       omega (arith, one-most (seatAt t i)),
@@ -84,9 +86,10 @@ loop-again c =
 
 returns : tie.Need-returns Inv-loop μ-loop
 returns c =
-    let a = c .before .before .before .args in
-    let t = a .t in
-    let full : length (t .seats) ≡ 9 = simp length-map at (c .before .before .before .good .0 .1 .1 .1 .1 .0 .1 .0 .1) in
+    let start = c .before .before .before in
+    let a = start .args in
+    let t = a .t1 in
+    let full : length (t .seats) ≡ 9 = simp length-map at (start .good .0 .1 .1 .1 .1 .0 .1 .0 .1) in
     c .before .loop .inv .1 ∙ ap (withSeats t) (serve-all (give (a .first)) (t .shoe .order) (t .shoe .drawn + a .at) (t .seats) (c .before .loop .i) (omega arith))
 
 pub pass-spec : {M : Type 1} → statement M
@@ -96,10 +99,12 @@ pass-spec =
     Inv-loop
     μ-loop
     loop-holds
-    seat-of-requires
+    mul-s
+    element-copy-out-s
     card-ahead-requires
     served-requires
-    with-seat-requires
+    mul-t12
+    element-set-from-next
     taken-requires
     add-n
     add-i

@@ -1,14 +1,11 @@
 -- `staked_seats` counts seat by seat: before each turn the count is that of the first i seats.
 use mathlib.Core.Path.{_≡_, _∙_, ap}
-use mathlib.Core.Bool.{cond}
 use Prim.Native.Nat.{_-_, _≤_}
 use native.Mathlib.Omega.{arith}
 use borrow.Author.Needs.{needs}
 use lib.ListN.{length, take, length-map}
 use lib.Seq.{take-all}
 use Rattle.lists.specs.Sum.{sum}
-use Rattle.table.specs.declared.Seat.{Seat}
-use Rattle.table.specs.Seat.{isStaked}
 use Rattle.table.specs.Table.{seatAt}
 use Rattle.dealing.specs.Deal.{stakedSeats}
 use Rattle.passes.proofs.Next.{one-most, staked-next}
@@ -25,14 +22,17 @@ loop-holds : tie.Need-loop-holds Inv-loop μ-loop
 unfolding sum
 loop-holds c = search needs
 
-seat-of-requires : tie.Need-seat-of-requires Inv-loop μ-loop
-seat-of-requires c κs = search needs
+mul-s : tie.Need-mul-s Inv-loop μ-loop
+mul-s c = omega arith
+
+element-copy-out-s : tie.Need-element-copy-out-s Inv-loop μ-loop
+element-copy-out-s c = omega arith
 
 taken-requires : tie.Need-taken-requires Inv-loop μ-loop
 taken-requires c κs = search needs
 
 add-n : tie.Need-add-n Inv-loop μ-loop
-add-n c = omega (arith, one-most (c .before .seat-of .result))
+add-n c = let at = c .before .before .before in omega (arith, one-most (seatAt (at .before .args .t1) (at .loop .i)))
 
 add-i : tie.Need-add-i Inv-loop μ-loop
 add-i c = omega arith
@@ -42,15 +42,14 @@ loop-less c = omega arith
 
 loop-again : tie.Need-loop-again Inv-loop μ-loop
 loop-again c =
-    let t = c .before .before .before .before .args .t in
-    let at = c .before .before .before .loop in
-    let full : length (t .seats) ≡ 9 = simp length-map at (c .before .before .before .before .good .0 .1 .1 .1 .1 .0 .1 .0 .1) in
-    let one : c .taken .result ≡ cond (isStaked (seatAt t (at .i))) 1 0 = c .taken .ensures ∙ ap (λ (s : Seat). cond (isStaked s) 1 0) (c .before .seat-of .ensures) in
-    (omega arith, omega (arith, staked-next (t .seats) (at .i) (omega arith)), omega (arith, one-most (seatAt t (at .i))))
+    let at = c .before .before .before in
+    let t = at .before .args .t1 in
+    let full : length (t .seats) ≡ 9 = simp length-map at (at .before .good .0 .1 .1 .1 .1 .0 .1 .0 .1) in
+    (omega arith, omega (arith, staked-next (t .seats) (at .loop .i) (omega arith)), omega (arith, one-most (seatAt t (at .loop .i))))
 
 returns : tie.Need-returns Inv-loop μ-loop
 returns c =
-    let t = c .before .before .args .t in
+    let t = c .before .before .args .t1 in
     let full : length (t .seats) ≡ 9 = simp length-map at (c .before .before .good .0 .1 .1 .1 .1 .0 .1 .0 .1) in
     (c .before .loop .inv .1 ∙ ap stakedSeats (take-all (c .before .loop .i) (t .seats) (omega arith)), omega arith)
 
@@ -61,7 +60,8 @@ staked-seats-spec =
     Inv-loop
     μ-loop
     loop-holds
-    seat-of-requires
+    mul-s
+    element-copy-out-s
     taken-requires
     add-n
     add-i

@@ -1,6 +1,6 @@
 -- The number decides: the table as it was, or the effect; an accepted stake's seat is one of the nine, and its purse holds it.
 use mathlib.Core.Path.{_≡_, sym, ap, _∙_}
-use Prim.Native.Nat.{_-_, _≤_}
+use Prim.Native.Nat.{_-_}
 use native.Mathlib.Omega.{arith}
 use borrow.Author.Needs.{needs}
 use Rattle.table.specs.declared.Seat.{Seat}

@@ -1,12 +1,8 @@
 -- The conditions are asked in the order of the list. Some seat has a stake exactly if there is something to cover.
-use mathlib.Core.Path.{_≡_, sym, _∙_, ap}
-use lib.Dec.{ltb}
+use mathlib.Core.Path.{sym, _∙_}
 use borrow.Author.Needs.{needs}
-use borrow.Author.Tests.{not-true, not-false}
 use Rattle.call.specs.Refusal.{first}
-use Rattle.table.specs.Table.{someStaked}
-use Rattle.sums.specs.declared.Sums.{Sums}
-use Rattle.sums.proofs.Capping.{some-cover}
+use Rattle.sums.proofs.Capping.{none-staked, is-staked}
 use Rattle.dealing.specs.Void.{voidConditions}
 use Rattle.voiding.proofs.void_number.Statement.{statement}
 use Rattle.voiding.proofs.void_number.Tie as tie
@@ -21,26 +17,23 @@ returns c = simp (sym (c .before .broken .ensures) ∙ c .if1 .taken)
 table-sums-requires : tie.Need-table-sums-requires
 table-sums-requires c κs = search needs
 
-some-staked-requires : tie.Need-some-staked-requires
-some-staked-requires c κs = search needs
-
 returns-2 : tie.Need-returns-2
 unfolding voidConditions first
 returns-2 c =
     let summed = c .before .before in
-    let t = summed .before .before .before .args .t in
-    let staked : someStaked t ≡ c .before .some-staked .result
-    = some-cover (t .seats) ∙ ap (λ (m : Sums). ltb 0 (m .cover)) (sym (summed .table-sums .ensures)) ∙ sym (c .before .some-staked .ensures) in
-    simp (sym (summed .before .before .broken .ensures) ∙ summed .before .if1 .left, staked ∙ not-true _ (c .if2 .taken))
+    simp (
+      sym (summed .before .before .broken .ensures) ∙ summed .before .if1 .left,
+      none-staked (summed .before .before .before .args .t) (summed .table-sums .result) (summed .table-sums .ensures) (c .if2 .taken),
+    )
 
 returns-3 : tie.Need-returns-3
 unfolding voidConditions first
 returns-3 c =
     let summed = c .before .before in
-    let t = summed .before .before .before .args .t in
-    let staked : someStaked t ≡ c .before .some-staked .result
-    = some-cover (t .seats) ∙ ap (λ (m : Sums). ltb 0 (m .cover)) (sym (summed .table-sums .ensures)) ∙ sym (c .before .some-staked .ensures) in
-    simp (sym (summed .before .before .broken .ensures) ∙ summed .before .if1 .left, staked ∙ not-false _ (c .if2 .left))
+    simp (
+      sym (summed .before .before .broken .ensures) ∙ summed .before .if1 .left,
+      is-staked (summed .before .before .before .args .t) (summed .table-sums .result) (summed .table-sums .ensures) (c .if2 .left),
+    )
 
 pub void-number-spec : {M : Type 1} → statement M
 void-number-spec =
@@ -49,6 +42,5 @@ void-number-spec =
     broken-requires
     returns
     table-sums-requires
-    some-staked-requires
     returns-2
     returns-3)

@@ -34,8 +34,11 @@ void-seat-requires c κs =
     let full : length (t .seats) ≡ 9 = simp length-map at (start .good .0 .1 .1 .1 .1 .0 .1 .0 .1) in
     seat-back t (start .pre) full (at .loop .i) (omega arith)
 
-with-seat-requires : tie.Need-with-seat-requires Inv-loop μ-loop
-with-seat-requires c κs = search needs
+mul-t9 : tie.Need-mul-t9 Inv-loop μ-loop
+mul-t9 c = omega arith
+
+element-set-from-next : tie.Need-element-set-from-next Inv-loop μ-loop
+element-set-from-next c = search needs
 
 add-i : tie.Need-add-i Inv-loop μ-loop
 add-i c = omega arith
@@ -45,12 +48,12 @@ loop-less c = omega arith
 
 loop-again : tie.Need-loop-again Inv-loop μ-loop
 loop-again c =
-    let at = c .before .before .before .before in
+    let at = c .before .before .before in
     let start = at .before .before in
     let t = start .args .t1 in
     let i = at .loop .i in
     let full : length (t .seats) ≡ 9 = simp length-map at (start .good .0 .1 .1 .1 .1 .0 .1 .0 .1) in
-    (omega arith, c .with-seat .ensures ∙ ap (withSeat (at .loop .next) i) (c .before .void-seat .ensures) ∙ stored-next (voidSeat (t .options)) t (at .loop .next) i (omega arith) (at .loop .inv .1))
+    (omega arith, ap (withSeat (at .loop .next) i) (c .void-seat .ensures) ∙ stored-next (voidSeat (t .options)) t (at .loop .next) i (omega arith) (at .loop .inv .1))
 
 returns : tie.Need-returns Inv-loop μ-loop
 returns c =
@@ -70,7 +73,8 @@ void-seats-spec =
     mul-s
     element-copy-out-s
     void-seat-requires
-    with-seat-requires
+    mul-t9
+    element-set-from-next
     add-i
     loop-less
     loop-again

@@ -1,7 +1,9 @@
 -- `each` goes from line to line; one that ends past its start leaves less of the text.
 use Prim.Native.Nat.{_+_, _-_, _≤_}
+use native.Mathlib.Omega.{arith}
 use borrow.Author.Needs.{needs}
 use lib.ListN.{length}
+use Rattle.script.proofs.Lines.{line-within}
 use Rattle.vectors.proofs.table.each.Statement.{statement}
 use Rattle.vectors.proofs.table.each.Tie as tie
 
@@ -10,6 +12,10 @@ Inv-loop text at₀ at = at ≤ length text + 1
 
 abbrev μ-loop : tie.MeasureT-loop
 μ-loop text at₀ at = length text + 1 - at
+
+-- a line ends within the text
+within : (c : tie.After-end-of Inv-loop μ-loop) → c .end-of .result ≤ length (c .before .before .before .before .args .text .now)
+within c = rw (c .end-of .ensures) (line-within (c .before .before .before .before .args .text .now) (c .before .before .loop .at) (omega arith))
 
 loop-holds : tie.Need-loop-holds Inv-loop μ-loop
 loop-holds c = search needs
@@ -27,19 +33,19 @@ part-example-start : tie.Need-part-example-start Inv-loop μ-loop
 part-example-start c = search needs
 
 part-example-end : tie.Need-part-example-end Inv-loop μ-loop
-part-example-end c = search needs
+part-example-end c = omega (arith, within (c .before))
 
 example-requires : tie.Need-example-requires Inv-loop μ-loop
 example-requires c κs = search needs
 
 add-at : tie.Need-add-at Inv-loop μ-loop
-add-at c = search needs
+add-at c = omega (arith, within (c .before))
 
 loop-less : tie.Need-loop-less Inv-loop μ-loop
 loop-less c = search needs
 
 loop-again : tie.Need-loop-again Inv-loop μ-loop
-loop-again c = search needs
+loop-again c = omega (arith, within (c .before))
 
 returns : tie.Need-returns Inv-loop μ-loop
 returns c = search needs

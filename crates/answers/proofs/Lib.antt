@@ -1,0 +1,3 @@
+-- Laws of steps and of pay lines.
+pub mod Laws
+pub mod Lines

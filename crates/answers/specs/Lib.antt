@@ -1,0 +1,3 @@
+-- What a step gives back.
+pub mod Settlement
+pub mod Stepped

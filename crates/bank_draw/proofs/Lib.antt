@@ -1,0 +1,2 @@
+-- Laws of the bank's cards, for the loop that draws them.
+pub mod Draws

@@ -1,0 +1,37 @@
+// The bank's cards at close: its burn, and cards while its total is 16 or less (document 01, "The seventeen calls").
+ghost use mathlib.Core.Path.{_≡_};
+ghost use Prim.Native.Nat.{_*_, _≤_};
+ghost use Rattle.hands.specs.Hand.{cardsOf};
+ghost use Rattle.settling.specs.BankDraw.{bankBurn, bankAtClose};
+use bank::must_draw;
+use hands::hand::Hand;
+use hands::hand::with_card;
+use options::Options;
+use round::cards_left;
+use shoe::card_ahead;
+use table::Table;
+
+// How many cards are burnt before the bank's second card.
+pub fn bank_burn(o: Options) -> usize
+    ensures { λ r. ⌜ r ≡ bankBurn o ⌝ }
+{
+    if o.later == 2 { 1 } else { 0 }
+}
+
+// The bank's hand once it has drawn. Public for close alone, whose table is sound: so it asks that the drawn part of the order lies within it.
+pub fn bank_at_close(t: Table) -> Hand
+    requires { ⌜ (t .shoe .drawn ≤ 52 * t .options .decks) × (52 * t .options .decks ≤ 416) ⌝ }
+    ensures { λ r. ⌜ cardsOf r ≡ bankAtClose t ⌝ }
+{
+    let shoe = t.shoe;
+    let left = cards_left(t);
+    let burnt = bank_burn(t.options);
+    let mut bank = t.bank;
+    for n in burnt..left {
+        if !must_draw(bank) {
+            return bank;
+        }
+        bank = with_card(bank, card_ahead(shoe, n));
+    }
+    bank
+}

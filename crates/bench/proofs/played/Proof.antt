@@ -1,0 +1,67 @@
+-- `played` makes as many turns as there are calls.
+use Prim.Native.Nat.{_≤_, _-_}
+use native.Mathlib.Omega.{arith}
+use borrow.Author.Needs.{needs}
+use Rattle.bench.proofs.played.Statement.{statement}
+use Rattle.bench.proofs.played.Tie as tie
+
+abbrev Inv-loop : tie.InvT-loop
+Inv-loop calls p₀ t₀ sum₀ n₀ p t sum n = (n ≤ calls) × (calls ≤ 18446744073709551615)
+
+abbrev μ-loop : tie.MeasureT-loop
+μ-loop calls p₀ t₀ sum₀ n₀ p t sum n = calls - n
+
+start-requires : tie.Need-start-requires Inv-loop μ-loop
+start-requires c κs = search needs
+
+opened-requires : tie.Need-opened-requires Inv-loop μ-loop
+opened-requires c κs = search needs
+
+loop-holds : tie.Need-loop-holds Inv-loop μ-loop
+loop-holds c = omega arith
+
+table-for-requires : tie.Need-table-for-requires Inv-loop μ-loop
+table-for-requires c κs = search needs
+
+begun-requires : tie.Need-begun-requires Inv-loop μ-loop
+begun-requires c κs = search needs
+
+stepped-requires : tie.Need-stepped-requires Inv-loop μ-loop
+stepped-requires c κs = search needs
+
+of-step-requires : tie.Need-of-step-requires Inv-loop μ-loop
+of-step-requires c κs = search needs
+
+after-requires : tie.Need-after-requires Inv-loop μ-loop
+after-requires c κs = search needs
+
+add-n : tie.Need-add-n Inv-loop μ-loop
+add-n c = omega arith
+
+loop-less : tie.Need-loop-less Inv-loop μ-loop
+loop-less c = omega arith
+
+loop-again : tie.Need-loop-again Inv-loop μ-loop
+loop-again c = omega arith
+
+returns : tie.Need-returns Inv-loop μ-loop
+returns c = search needs
+
+pub played-spec : {M : Type 1} → statement M
+played-spec =
+    tie.close
+    (tie.spec
+    Inv-loop
+    μ-loop
+    start-requires
+    opened-requires
+    loop-holds
+    table-for-requires
+    begun-requires
+    stepped-requires
+    of-step-requires
+    after-requires
+    add-n
+    loop-less
+    loop-again
+    returns)

@@ -1,0 +1,77 @@
+// A fixed workload of whole sessions, for as many calls as the argument says; then a checksum of money and cards.
+mod checksum;
+mod house;
+mod plan;
+
+use answers::Stepped;
+use call::Call;
+use engine::step;
+use libc::STDOUT_FILENO;
+use opening::opening;
+use plan::Plan;
+use script::number;
+use table::Table;
+
+// The argument in decimal.
+fn calls_asked() -> u64 {
+    let mut word = [b' '; 9];
+    let n = os::arg(1, &mut word);
+    number(&word[..n])
+}
+
+// A session's first table.
+fn opened(p: Plan) -> Table {
+    let cards = house::order_of(p.decks, p.seed);
+    let n = house::cards_of(p.decks);
+    let o = opening(house::options_of(p.decks), &cards[..n]);
+    o.table
+}
+
+// Where a session begins its table, else the same one.
+fn table_for(p: Plan, t: Table) -> Table {
+    if p.stage == plan::OPEN {
+        return opened(p);
+    }
+    t
+}
+
+// A load with a new order.
+fn loaded(p: Plan, t: Table) -> Stepped {
+    let cards = house::order_of(p.decks, p.seed);
+    let n = house::cards_of(p.decks);
+    step(t, Call::Load, &cards[..n])
+}
+
+// One call of the plan; only a load is lent an order.
+fn stepped(p: Plan, t: Table) -> Stepped {
+    if p.stage == plan::LOAD {
+        return loaded(p, t);
+    }
+    step(t, plan::chosen(p, t), b"")
+}
+
+// The checksum after these calls.
+fn played(calls: u64) -> u64 {
+    let mut p = plan::start();
+    let mut t = opened(p);
+    let mut sum: u64 = 0;
+    for n in 0..calls {
+        t = table_for(p, t);
+        p = plan::begun(p);
+        let s = stepped(p, t);
+        let answer = s.answer;
+        t = s.table;
+        sum = checksum::of_step(sum, answer, t);
+        p = plan::after(p, answer.number, t);
+    }
+    sum
+}
+
+fn main() {
+    let calls = calls_asked();
+    let sum = played(calls);
+    io::print_decimal(STDOUT_FILENO, calls);
+    io::write_all(STDOUT_FILENO, b" calls, checksum ");
+    io::print_decimal(STDOUT_FILENO, sum);
+    io::write_all(STDOUT_FILENO, b"\n");
+}

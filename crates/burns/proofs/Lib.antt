@@ -1,2 +1,0 @@
--- Laws of the cards that are left, for the loop that burns.
-pub mod Left

@@ -1,0 +1,56 @@
+-- The conditions are asked in the order of the list: the shared ones first.
+use mathlib.Core.Path.{sym, _∙_}
+use borrow.Author.Needs.{needs}
+use borrow.Author.Tests.{eq-eqb, ne-eqb}
+use Rattle.call.proofs.Refusals.{first-before, first-here, first-next, first-last}
+use Rattle.cashier.specs.Buy.{buyConditions}
+use Rattle.cashier.specs.Between.{betweenConditions}
+use Rattle.between.proofs.Answer.{between-behind}
+use Rattle.buying.proofs.buy_number.Statement.{statement}
+use Rattle.buying.proofs.buy_number.Tie as tie
+
+between-number-requires : tie.Need-between-number-requires
+between-number-requires c κs = search needs
+
+returns : tie.Need-returns
+unfolding buyConditions
+returns c =
+    let start = c .before .before in
+    sym (first-before (betweenConditions (start .args .t) (start .args .at .seat)) _ _ (sym (c .before .between-number .ensures)) (c .if1 .taken))
+
+returns-2 : tie.Need-returns-2
+unfolding buyConditions
+returns-2 c =
+    let start = c .before .before .before in
+    sym (between-behind (start .args .t) (start .args .at .seat) (sym (c .before .before .between-number .ensures) ∙ c .before .if1 .left) _
+    ∙ first-here _ _ _ (eq-eqb _ _ (c .if2 .taken)))
+
+past-limit-requires : tie.Need-past-limit-requires
+past-limit-requires c κs = search needs
+
+returns-3 : tie.Need-returns-3
+unfolding buyConditions
+returns-3 c =
+    let start = c .before .before .before .before .before in
+    sym (between-behind (start .args .t) (start .args .at .seat) (sym (c .before .before .before .before .between-number .ensures) ∙ c .before .before .before .if1 .left) _
+    ∙ first-next _ _ _ (ne-eqb _ _ (c .before .before .if2 .left))
+    ∙ first-here _ _ _ (sym (c .before .past-limit .ensures) ∙ c .if3 .taken))
+
+returns-4 : tie.Need-returns-4
+unfolding buyConditions
+returns-4 c =
+    let start = c .before .before .before .before .before in
+    sym (between-behind (start .args .t) (start .args .at .seat) (sym (c .before .before .before .before .between-number .ensures) ∙ c .before .before .before .if1 .left) _
+    ∙ first-next _ _ _ (ne-eqb _ _ (c .before .before .if2 .left))
+    ∙ first-last _ _ (sym (c .before .past-limit .ensures) ∙ c .if3 .left))
+
+pub buy-number-spec : {M : Type 1} → statement M
+buy-number-spec =
+    tie.close
+    (tie.spec
+    between-number-requires
+    returns
+    returns-2
+    past-limit-requires
+    returns-3
+    returns-4)

@@ -1,0 +1,46 @@
+// buy: a seat's purse up (document 01, "The seventeen calls"). The number function asks the list's conditions in its order.
+ghost use mathlib.Core.Path.{_≡_};
+ghost use Rattle.call.specs.Refusal.{first};
+ghost use Rattle.outcome.specs.Outcome.{outcome};
+ghost use Rattle.cashier.specs.Buy.{buyConditions, buyEffect};
+use between::between_number;
+use call::At;
+use limits::past_limit;
+use outcome::Outcome;
+use seats::seat_of;
+use seats::with_purse;
+use seats::with_seat;
+use table::Table;
+
+fn buy_number(t: Table, at: At, n: u64) -> u8
+    ensures { λ r. ⌜ r ≡ first (buyConditions t (at .seat) n) ⌝ }
+{
+    let number = between_number(t, at);
+    if number != 0 {
+        return number;
+    }
+    if n == 0 {
+        return 14;
+    }
+    if past_limit(t, n) {
+        return 14;
+    }
+    0
+}
+
+pub fn buy(t: Table, at: At, n: u64) -> Outcome
+    ensures { λ r. ⌜ r ≡ outcome (buyConditions t (at .seat) n) (buyEffect t (at .seat) n) t ⌝ }
+{
+    let number = buy_number(t, at, n);
+    if number != 0 {
+        return Outcome { number, table: t };
+    }
+    let j = at.seat as usize;
+    let s = seat_of(t, j);
+    let money = s.money;
+    let next = with_purse(s, money.purse + n);
+    Outcome {
+        number,
+        table: with_seat(t, j, next),
+    }
+}

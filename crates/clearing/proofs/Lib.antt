@@ -1,0 +1,2 @@
+-- Laws of the cards that close makes discards.
+pub mod Clears

@@ -1,0 +1,2 @@
+-- What the parts of an accepted close ask.
+pub mod Closes

@@ -1,0 +1,3 @@
+-- The parts of close.
+pub mod Effect
+pub mod Numbers

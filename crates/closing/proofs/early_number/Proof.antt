@@ -1,0 +1,73 @@
+-- The conditions are asked in the order of the list; past the first the table is sound.
+use mathlib.Core.Path.{sym, _∙_}
+use native.Mathlib.Omega.{arith}
+use borrow.Author.Needs.{needs}
+use borrow.Author.Tests.{not-true, not-false}
+use Rattle.call.specs.Refusal.{first}
+use Rattle.table.proofs.Facts.{unbroken}
+use Rattle.settling.specs.Close.{closeConditions}
+use Rattle.closing.proofs.early_number.Statement.{statement}
+use Rattle.closing.proofs.early_number.Tie as tie
+
+broken-requires : tie.Need-broken-requires
+broken-requires c κs = search needs
+
+returns : tie.Need-returns
+unfolding closeConditions first
+returns c = (simp (sym (c .before .broken .ensures) ∙ c .if1 .taken), λ none. absurd (omega arith))
+
+is-dealt-requires : tie.Need-is-dealt-requires
+is-dealt-requires c κs = search needs
+
+returns-2 : tie.Need-returns-2
+unfolding closeConditions first
+returns-2 c =
+    let whole = c .before .before in (
+      simp (
+        sym (whole .before .broken .ensures) ∙ whole .if1 .left,
+        sym (c .before .is-dealt .ensures) ∙ not-true _ (c .if2 .taken),
+      ),
+      λ none. absurd (omega arith),
+    )
+
+some-waits-requires : tie.Need-some-waits-requires
+some-waits-requires c κs = search needs
+
+returns-3 : tie.Need-returns-3
+unfolding closeConditions first
+returns-3 c =
+    let dealt = c .before .before in
+    let whole = dealt .before .before in (
+      simp (
+        sym (whole .before .broken .ensures) ∙ whole .if1 .left,
+        sym (dealt .before .is-dealt .ensures) ∙ not-false _ (dealt .if2 .left),
+        sym (c .before .some-waits .ensures) ∙ c .if3 .taken,
+      ),
+      λ none. absurd (omega arith),
+    )
+
+returns-4 : tie.Need-returns-4
+unfolding closeConditions first
+returns-4 c =
+    let dealt = c .before .before in
+    let whole = dealt .before .before in
+    let unharmed = sym (whole .before .broken .ensures) ∙ whole .if1 .left in (
+      simp (
+        unharmed,
+        sym (dealt .before .is-dealt .ensures) ∙ not-false _ (dealt .if2 .left),
+        sym (c .before .some-waits .ensures) ∙ c .if3 .left,
+      ),
+      λ none. unbroken (whole .before .before .args .t) unharmed,
+    )
+
+pub early-number-spec : {M : Type 1} → statement M
+early-number-spec =
+    tie.close
+    (tie.spec
+    broken-requires
+    returns
+    is-dealt-requires
+    returns-2
+    some-waits-requires
+    returns-3
+    returns-4)

@@ -1,0 +1,100 @@
+// close: the bank's cards are drawn, all is paid and all cards become discards (document 01, "The seventeen calls" and "Payment").
+ghost use mathlib.Core.Path.{_≡_};
+ghost use mathlib.Core.Bool.{cond};
+ghost use lib.Dec.{eqb};
+ghost use Rattle.call.specs.Refusal.{first};
+ghost use Rattle.hands.specs.Hand.{cardsOf};
+ghost use Rattle.bank.specs.Bank.{mustDraw, scoreOf};
+ghost use Rattle.table.specs.Sound.{Sound};
+ghost use Rattle.settling.specs.BankDraw.{bankAtClose};
+ghost use Rattle.settling.specs.Close.{closeConditions, closeEffect, closeShown};
+ghost use Rattle.answers.specs.Stepped.{makeStep, stepped, stepOf};
+ghost use Rattle.clearing.specs.Closes.{Closes};
+use answers::Answer;
+use answers::Settlement;
+use answers::Stepped;
+use answers::plain_step;
+use bank::Score;
+use bank::must_draw;
+use bank::score_of;
+use bank_draw::bank_at_close;
+use broken::broken;
+use clearing::closed_shoe;
+use hands::hand::Hand;
+use hands::hand::empty_hand;
+use outcome::Outcome;
+use pay_lines::all_lines;
+use paying::paid_seats;
+use paying::seats_back;
+use round::is_dealt;
+use sums::table_sums;
+use table::Table;
+use turns::some_waits;
+
+// The numbers that do not ask for the bank's cards: 1, 5, 7.
+fn early_number(t: Table) -> u8
+    ensures same { λ r. ⌜ first (closeConditions t) ≡ cond (eqb r 0) (cond (mustDraw (bankAtClose t)) 18 0) r ⌝ }
+    ensures sound { λ r. ⌜ (r ≡ 0 → Sound t) ⌝ }
+{
+    if broken(t) {
+        return 1;
+    }
+    if !is_dealt(t) {
+        return 5;
+    }
+    if some_waits(t) {
+        return 7;
+    }
+    0
+}
+
+// The table after an accepted close: what lay on the layout goes to the tray, what goes back comes from it.
+fn closed(t: Table, bank: Hand, score: Score) -> Table
+    requires ends { ⌜ Closes t bank ⌝ }
+    requires scored { ⌜ score ≡ scoreOf (cardsOf bank) ⌝ }
+    ensures { λ r. ⌜ r ≡ closeEffect t ⌝ }
+{
+    let sums = table_sums(t);
+    let mut next = paid_seats(t, score);
+    next.tray = t.tray + sums.laid - seats_back(t, score);
+    next.bank = empty_hand();
+    next.shoe = closed_shoe(t, bank);
+    next
+}
+
+// An accepted close: its bank's cards, its lines and its table.
+fn settled(t: Table, bank: Hand) -> Stepped
+    requires { ⌜ Closes t bank ⌝ }
+    ensures { λ r. ⌜ stepOf r ≡ makeStep 0 (closeShown t) (closeEffect t) ⌝ }
+{
+    let score = score_of(bank);
+    let lines = all_lines(t, score);
+    let table = closed(t, bank, score);
+    Stepped {
+        answer: Answer {
+            number: 0,
+            settlement: Settlement { bank, lines },
+        },
+        table,
+    }
+}
+
+pub fn close(t: Table) -> Stepped
+    ensures { λ r. ⌜ stepOf r ≡ stepped (closeConditions t) (closeShown t) (closeEffect t) t ⌝ }
+{
+    let early = early_number(t);
+    if early != 0 {
+        return plain_step(Outcome {
+            number: early,
+            table: t,
+        });
+    }
+    let bank = bank_at_close(t);
+    if must_draw(bank) {
+        return plain_step(Outcome {
+            number: 18,
+            table: t,
+        });
+    }
+    settled(t, bank)
+}

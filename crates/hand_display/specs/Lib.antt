@@ -1,0 +1,2 @@
+-- What a display reads of a hand.
+pub mod Shown

@@ -1,0 +1,2 @@
+-- Laws of orders.
+pub mod Orders

@@ -1,0 +1,2 @@
+-- Orders of cards.
+pub mod Begun

@@ -1,0 +1,3 @@
+-- Laws of the pay lines that the loops cite.
+pub mod Pays
+pub mod HandLines

@@ -1,0 +1,64 @@
+-- `order_of` lends as many cards as `half` counts, at most the 64 that there are.
+use mathlib.Core.Path.{_≡_}
+use native.Mathlib.Omega.{arith}
+use lib.ListN.{length, length-take}
+use borrow.Author.Needs.{needs}
+use Rattle.rehearsal.proofs.houses.order_of.Statement.{statement}
+use Rattle.rehearsal.proofs.houses.order_of.Tie as tie
+
+sub-letters : tie.Need-sub-letters
+sub-letters c = search needs
+
+part-letters-start : tie.Need-part-letters-start
+part-letters-start c = search needs
+
+part-letters-end : tie.Need-part-letters-end
+part-letters-end c = search needs
+
+cards-named-requires : tie.Need-cards-named-requires
+cards-named-requires c κs = search needs
+
+half-requires : tie.Need-half-requires
+half-requires c κs = search needs
+
+array-share-prefix-cards : tie.Need-array-share-prefix-cards
+array-share-prefix-cards c = search needs
+
+slice-aggregate-begun-order : tie.Need-slice-aggregate-begun-order
+slice-aggregate-begun-order c = let full : length (c .before .before .cards-named .result) ≡ 64 = search needs in simp length-take (omega arith)
+
+shared-slice-read-digit : tie.Need-shared-slice-read-digit
+shared-slice-read-digit c = search needs
+
+digit-requires : tie.Need-digit-requires
+digit-requires c κs = search needs
+
+begun-order-requires : tie.Need-begun-order-requires
+begun-order-requires c κs = search needs
+
+shared-slice-read-spoilt : tie.Need-shared-slice-read-spoilt
+shared-slice-read-spoilt c = search needs
+
+spoilt-requires : tie.Need-spoilt-requires
+spoilt-requires c κs = search needs
+
+returns : tie.Need-returns
+returns c = search needs
+
+pub order-of-spec : {M : Type 1} → statement M
+order-of-spec =
+    tie.close
+    (tie.spec
+    sub-letters
+    part-letters-start
+    part-letters-end
+    cards-named-requires
+    half-requires
+    array-share-prefix-cards
+    slice-aggregate-begun-order
+    shared-slice-read-digit
+    digit-requires
+    begun-order-requires
+    shared-slice-read-spoilt
+    spoilt-requires
+    returns)

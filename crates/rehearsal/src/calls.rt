@@ -1,0 +1,113 @@
+// The calls of the script: each row is one step, and a line shows its answer and the table after it.
+ghost use Prim.Native.Nat.{_≤_};
+use crate::lines;
+use crate::stage::Stage;
+use crate::stage::lent;
+use answers::Stepped;
+use call::At;
+use call::Call;
+use engine::step;
+use orders::Order;
+use script::digit;
+use script::number;
+use table::Table;
+
+// The call that a letter stands for.
+fn call_of(letter: u8, at: At, amount: u64) -> Call {
+    match letter {
+        b'f' => Call::Fill(amount),
+        b'c' => Call::Credit(amount),
+        b'b' => Call::Buy(at, amount),
+        b'x' => Call::Cash(at, amount),
+        b's' => Call::Stake(at, amount),
+        b'D' => Call::Deal,
+        b'i' => Call::Insure(at, amount),
+        b'n' => Call::Stand(at),
+        b'd' => Call::Draw(at),
+        b'2' => Call::Double(at),
+        b'p' => Call::Split(at),
+        b'u' => Call::Surrender(at),
+        b'e' => Call::Even(at),
+        b'5' => Call::Five(at),
+        b'C' => Call::Close,
+        b'V' => Call::Void,
+        _ => Call::Load,
+    }
+}
+
+// As many draws of a seat as the amount says, at most twenty; the answer of the last.
+fn drawn(t: Table, at: At, times: u64) -> Stepped {
+    let mut s = step(t, Call::Draw(at), b"");
+    for i in 1u64..20 {
+        if i < times {
+            s = step(s.table, Call::Draw(at), b"");
+        }
+    }
+    s
+}
+
+// Every seat below the number buys the amount and stakes it.
+fn all_staked(t: Table, seats: u8, amount: u64) -> Table {
+    let mut next = t;
+    for seat in 0u8..seats {
+        let bought = step(next, Call::Buy(At { seat }, amount), b"");
+        let staked = step(bought.table, Call::Stake(At { seat }, amount), b"");
+        next = staked.table;
+    }
+    next
+}
+
+// And takes it home.
+fn all_cashed(t: Table, seats: u8, amount: u64) -> Table {
+    let mut next = t;
+    for seat in 0u8..seats {
+        let cashed = step(next, Call::Cash(At { seat }, amount), b"");
+        next = cashed.table;
+    }
+    next
+}
+
+// The shoe run down by one deal: stakes, the deal and a void. The answer is the deal's.
+fn run_down(t: Table, seats: u8, amount: u64) -> Stepped {
+    let mut dealt = step(all_staked(t, seats, amount), Call::Deal, b"");
+    let voided = step(dealt.table, Call::Void, b"");
+    dealt.table = all_cashed(voided.table, seats, amount);
+    dealt
+}
+
+// A call with the first of these cards for its order.
+fn stepped(cards: [u8; 416], count: usize, t: Table, c: Call) -> Stepped {
+    step(t, c, &cards[..lent(count)])
+}
+
+// What a row plays.
+fn played(t: Table, letter: u8, at: At, amount: u64, order: Order) -> Stepped {
+    match letter {
+        b'm' => drawn(t, at, amount),
+        b'w' => run_down(t, at.seat, amount),
+        _ => {
+            let cards = order.cards;
+            stepped(cards, order.count, t, call_of(letter, at, amount))
+        }
+    }
+}
+
+// One row: at 2 stands the seat, at 4 the amount, at 21 the words.
+pub fn called(s: Stage, row: &[u8]) -> Stage
+    requires { do ⌜ 21 ≤ (← ⟦row.len()⟧) ⌝ }
+{
+    let t = s.table;
+    let order = s.order;
+    let letter = row[0];
+    let at = At {
+        seat: digit(row[2]),
+    };
+    let amount = number(&row[4..20]);
+    let after = played(t, letter, at, amount, order);
+    let table = after.table;
+    let answer = after.answer;
+    lines::called(letter, answer, table, &row[21..]);
+    let mut next = s;
+    next.table = table;
+    next
+}

@@ -1,0 +1,128 @@
+// Orders and openings.
+ghost use Prim.Native.Nat.{_≤_};
+use crate::lines;
+use crate::stage::Stage;
+use crate::stage::lent;
+use opening::opening;
+use options::Options;
+use orders::Order;
+use orders::begun_order;
+use outcome::Outcome;
+use script::card;
+use script::digit;
+use script::number;
+
+// The order as a builder may lend it wrongly: one card short (-), with a byte that is no card in its last place (x), or with the first card there (2).
+fn spoilt(o: Order, letter: u8) -> Order {
+    let count = o.count;
+    if count == 0 {
+        return o;
+    }
+    if 416 < count {
+        return o;
+    }
+    let last = count - 1;
+    let first = o.cards[0];
+    let mut next = o;
+    match letter {
+        b'-' => {
+            next.count = last;
+        }
+        b'x' => {
+            next.cards[last] = 52;
+        }
+        b'2' => {
+            next.cards[last] = first;
+        }
+        _ => {}
+    }
+    next
+}
+
+// The card that two letters name, the second of which has the place `at`; 0 behind the last letter.
+fn card_at(letters: &[u8], at: usize) -> u8
+    requires { ⌜ 1 ≤ at ⌝ }
+{
+    if at < letters.len() {
+        card(letters[at - 1], letters[at])
+    } else {
+        0
+    }
+}
+
+// The cards that the letters name, two letters each: at most 64 of them.
+fn cards_named(letters: &[u8]) -> [u8; 64] {
+    let mut cards = [0u8; 64];
+    for i in 0usize..64 {
+        cards[i] = card_at(letters, 2 * i + 1);
+    }
+    cards
+}
+
+fn half(n: usize) -> usize
+    ensures { λ r. ⌜ r ≤ 64 ⌝ }
+{
+    if n < 128 { n / 2 } else { 64 }
+}
+
+// At 2 stands how the order is wrong (. not), at 4 the decks, from 21 on the cards that it begins with.
+fn order_of(row: &[u8]) -> Order
+    requires { do ⌜ 21 ≤ (← ⟦row.len()⟧) ⌝ }
+{
+    let letters = &row[21..];
+    let cards = cards_named(letters);
+    let n = half(letters.len());
+    spoilt(begun_order(&cards[..n], digit(row[4])), row[2])
+}
+
+// The order that the next opening or load is lent.
+pub fn ordered(s: Stage, row: &[u8]) -> Stage
+    requires { do ⌜ 21 ≤ (← ⟦row.len()⟧) ⌝ }
+{
+    let order = order_of(row);
+    let mut next = s;
+    next.order = order;
+    next
+}
+
+// Eleven options of a digit each, at 2; the cut at 14, the smallest stake at 18, the largest at 26.
+fn house(row: &[u8]) -> Options
+    requires { do ⌜ 34 ≤ (← ⟦row.len()⟧) ⌝ }
+{
+    Options {
+        seats: digit(row[2]),
+        decks: digit(row[3]),
+        first: digit(row[4]),
+        later: digit(row[5]),
+        hands: digit(row[6]),
+        aces: digit(row[7]),
+        double: digit(row[8]),
+        limit: digit(row[9]),
+        insurance: digit(row[10]),
+        five: digit(row[11]),
+        prize: digit(row[12]),
+        cut: (number(&row[14..17]) % 1000) as u16,
+        smallest: (number(&row[18..25]) % 10000000) as u32,
+        largest: (number(&row[26..33]) % 10000000) as u32,
+    }
+}
+
+// An opening with the first of these cards.
+fn opened_by(cards: [u8; 416], count: usize, o: Options) -> Outcome {
+    opening(o, &cards[..lent(count)])
+}
+
+// An opening with the order that was lent last.
+pub fn opened(s: Stage, row: &[u8]) -> Stage {
+    if row.len() < 34 {
+        return s;
+    }
+    let order = s.order;
+    let cards = order.cards;
+    let o = opened_by(cards, order.count, house(row));
+    let table = o.table;
+    lines::opened(o.number, table, &row[34..]);
+    let mut next = s;
+    next.table = table;
+    next
+}

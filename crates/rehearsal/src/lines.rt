@@ -1,0 +1,227 @@
+// What the rehearsal writes.
+ghost use Prim.Native.Nat.{_≤_, _+_};
+use answers::Answer;
+use answers::PayLines;
+use answers::Settlement;
+use call::INSURANCE;
+use call::PayLine;
+use display::shown_table;
+use display::shown_turn;
+use hand_display::HandShown;
+use hand_display::shown_hand;
+use hands::hand::Hand;
+use hands::hand::held;
+use libc::STDOUT_FILENO;
+use script::end_of;
+use seat_display::shown_seat;
+use table::Table;
+
+fn words(text: &[u8]) {
+    io::write_all(STDOUT_FILENO, text);
+}
+
+fn figure(n: u64) {
+    words(b" ");
+    io::print_decimal(STDOUT_FILENO, n);
+}
+
+fn counted(name: &[u8], n: u64) {
+    words(name);
+    figure(n);
+}
+
+// The line of a text that begins at a place.
+fn line_at(text: &[u8], at: usize)
+    requires { do ⌜ at ≤ (← ⟦text.len()⟧) ⌝ }
+{
+    let end = end_of(text, at);
+    if at <= end {
+        words(&text[at..end]);
+    }
+}
+
+// What the script says of the rows that follow.
+pub fn heading(text: &[u8]) {
+    words(text);
+    words(b"\n");
+}
+
+// Number, tray, layout, all purses, cards left, and the words of the script, after the name of the call.
+fn figures(number: u8, t: Table, what: &[u8]) {
+    let shown = shown_table(t);
+    figure(number as u64);
+    figure(shown.tray);
+    figure(shown.layout);
+    figure(shown.purses);
+    figure(shown.left as u64);
+    words(b" | ");
+    words(what);
+    words(b"\n");
+}
+
+// The line of an opening.
+pub fn opened(number: u8, t: Table, what: &[u8]) {
+    words(b"open");
+    figures(number, t, what);
+}
+
+// One letter of a text.
+fn letter_at(text: &[u8], at: usize)
+    requires { do ⌜ at + 1 ≤ (← ⟦text.len()⟧) ⌝ }
+{
+    words(&text[at..at + 1]);
+}
+
+// A letter for the rank, one for the suit.
+fn card(card: u8) {
+    letter_at(b"A23456789TJQK", (card % 13) as usize);
+    letter_at(b"abcd", (card / 13 % 4) as usize);
+}
+
+fn cards(h: Hand) {
+    let n = held(h);
+    words(b" ");
+    for i in 0usize..n {
+        let one = h.cards[i];
+        card(one);
+    }
+}
+
+// How far the net is from nothing.
+fn size(n: i64) -> u64 {
+    if n < 0 {
+        return ((-1 - n) as u64) + 1;
+    }
+    n as u64
+}
+
+// Where the sign of the net stands.
+fn sign(n: i64) -> usize
+    ensures { λ r. ⌜ r ≤ 6 ⌝ }
+{
+    if n < 0 {
+        return 0;
+    }
+    if n > 0 { 3 } else { 6 }
+}
+
+// The net with its sign.
+fn net(n: i64) {
+    line_at(b" -\n +\n \n", sign(n));
+    io::print_decimal(STDOUT_FILENO, size(n));
+}
+
+fn pay_line(l: PayLine) {
+    counted(b"  seat", l.seat as u64);
+    if l.kind == INSURANCE {
+        words(b" insurance");
+    } else {
+        counted(b" hand", l.place as u64);
+    }
+    net(l.net);
+    words(b"\n");
+}
+
+fn pay_lines(l: PayLines) {
+    let n = l.count;
+    for i in 0usize..45 {
+        if i < n {
+            let line = l.lines[i];
+            pay_line(line);
+        }
+    }
+}
+
+// What close shows: the bank's cards and the pay lines.
+fn settlement(s: Settlement) {
+    let bank = s.bank;
+    if bank.count == 0 {
+        return;
+    }
+    words(b"  bank");
+    cards(bank);
+    words(b"\n");
+    pay_lines(s.lines);
+}
+
+// The place of a letter among letters, or their number where it is none of them.
+fn place(letters: &[u8], letter: u8) -> usize
+    ensures { λ r. do ⌜ r ≤ (← ⟦letters.len()⟧ .entry) ⌝ }
+{
+    let mut i = 0;
+    while i < letters.len() {
+        if letters[i] == letter {
+            return i;
+        }
+        i += 1;
+    }
+    i
+}
+
+// The name of the call that a letter stands for; the names stand ten letters apart.
+fn name(letter: u8) {
+    let at = 10 * place(b"fcbxsDindm2pue5CVw", letter);
+    line_at(
+        b"fill\n     credit\n   buy\n      cash\n     stake\n    deal\n     insure\n   stand\n    draw\n     draw\n     double\n   split\n    surrender\neven\n     five\n     close\n    void\n     down\n     load\n     ",
+        at,
+    );
+}
+
+// The line of a call, and what it shows.
+pub fn called(letter: u8, answer: Answer, t: Table, what: &[u8]) {
+    name(letter);
+    figures(answer.number, t, what);
+    settlement(answer.settlement);
+}
+
+// The code as a place, or the last one.
+fn most(code: u8, last: usize) -> usize
+    ensures { λ r. ⌜ r ≤ last ⌝ }
+{
+    let k = code as usize;
+    if k < last { k } else { last }
+}
+
+// Where a hand comes from and how it ended; the words stand twelve and fourteen letters apart.
+fn state(origin: u8, ended: u8) {
+    let from = 12 * most(origin, 2);
+    let to = 14 * most(ended, 5);
+    line_at(b" dealt\n      split\n      split aces\n", from);
+    line_at(
+        b" open\n         stood\n        doubled\n      surrendered\n  even\n         five\n        ",
+        to,
+    );
+}
+
+fn hand(place: usize, h: HandShown) {
+    let held = h.hand;
+    counted(b"  hand", place as u64);
+    cards(held);
+    counted(b" total", h.total as u64);
+    counted(b" wager", h.wager);
+    state(h.origin, h.ended);
+    words(b"\n");
+}
+
+// The hands of a seat, in their places.
+pub fn hands(t: Table, seat: u8) {
+    let shown = shown_seat(t, seat);
+    let n = shown.hands;
+    for place in 0usize..4 {
+        if place < n {
+            hand(place, shown_hand(t, seat, place));
+        }
+    }
+}
+
+// Whose turn it is.
+pub fn turn(t: Table) {
+    let shown = shown_turn(t);
+    if !shown.somebody {
+        words(b"  nobody's turn\n");
+        return;
+    }
+    counted(b"  turn of seat", shown.seat as u64);
+    counted(b" hand", shown.place as u64);
+    words(b"\n");
+}

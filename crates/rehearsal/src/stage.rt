@@ -1,0 +1,27 @@
+// What the rehearsal keeps from row to row: the table, and the order that the next opening or load is lent.
+ghost use Prim.Native.Nat.{_≤_};
+use blank::no_options;
+use opening::opening;
+use orders::Order;
+use orders::begun_order;
+use table::Table;
+
+pub struct Stage {
+    pub table: Table,
+    pub order: Order,
+}
+
+// The empty table, which a refused opening gives, and no order.
+pub fn first_stage() -> Stage {
+    let order = begun_order(b"", 0);
+    let refused = opening(no_options(), b"");
+    let table = refused.table;
+    Stage { table, order }
+}
+
+// How many cards of an order are lent: its count, which is 416 at most.
+pub fn lent(count: usize) -> usize
+    ensures { λ r. ⌜ r ≤ 416 ⌝ }
+{
+    if 416 < count { 416 } else { count }
+}

@@ -1,0 +1,4 @@
+-- Laws of scripts.
+pub mod Numbers
+pub mod Cards
+pub mod Lines

@@ -1,0 +1,2 @@
+-- The place in the seat whose turn it is.
+pub mod Place

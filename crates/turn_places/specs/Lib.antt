@@ -1,0 +1,2 @@
+-- The place whose turn it is at a table.
+pub mod Place
