@@ -27,14 +27,6 @@ fn opened(p: Plan) -> Table {
     o.table
 }
 
-// Where a session begins its table, else the same one.
-fn table_for(p: Plan, t: Table) -> Table {
-    if p.stage == plan::OPEN {
-        return opened(p);
-    }
-    t
-}
-
 // A load with a new order.
 fn loaded(p: Plan, t: Table) -> Stepped {
     let cards = house::order_of(p.decks, p.seed);
@@ -56,8 +48,10 @@ fn played(calls: u64) -> u64 {
     let mut t = opened(p);
     let mut sum: u64 = 0;
     for n in 0..calls {
-        t = table_for(p, t);
-        p = plan::begun(p);
+        if p.stage == plan::OPEN {
+            t = opened(p);
+            p.stage = plan::FILL;
+        }
         let s = stepped(p, t);
         let answer = s.answer;
         t = s.table;

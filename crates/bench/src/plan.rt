@@ -53,15 +53,6 @@ pub fn start() -> Plan {
     }
 }
 
-// An opened session starts at its first stage.
-pub fn begun(p: Plan) -> Plan {
-    let mut next = p;
-    if p.stage == OPEN {
-        next.stage = FILL;
-    }
-    next
-}
-
 // A decision for the seat whose turn it is: after a refused one it stands, else the seed decides.
 fn decision(p: Plan, at: At) -> Call {
     if p.refused {

@@ -20,11 +20,8 @@ opened-requires c κs = search needs
 loop-holds : tie.Need-loop-holds Inv-loop μ-loop
 loop-holds c = omega arith
 
-table-for-requires : tie.Need-table-for-requires Inv-loop μ-loop
-table-for-requires c κs = search needs
-
-begun-requires : tie.Need-begun-requires Inv-loop μ-loop
-begun-requires c κs = search needs
+opened-requires-2 : tie.Need-opened-requires-2 Inv-loop μ-loop
+opened-requires-2 c κs = search needs
 
 stepped-requires : tie.Need-stepped-requires Inv-loop μ-loop
 stepped-requires c κs = search needs
@@ -56,8 +53,7 @@ played-spec =
     start-requires
     opened-requires
     loop-holds
-    table-for-requires
-    begun-requires
+    opened-requires-2
     stepped-requires
     of-step-requires
     after-requires
