@@ -4,7 +4,6 @@ mod house;
 mod plan;
 
 use answers::Stepped;
-use call::Call;
 use engine::step;
 use libc::STDOUT_FILENO;
 use opening::opening;
@@ -27,32 +26,27 @@ fn opened(p: Plan) -> Table {
     o.table
 }
 
-// A load with a new order.
-fn loaded(p: Plan, t: Table) -> Stepped {
-    let cards = house::order_of(p.decks, p.seed);
+// One call of the plan. The order is lent to each of them, and only a load reads it.
+fn stepped(p: Plan, t: Table, cards: [u8; 416]) -> Stepped {
     let n = house::cards_of(p.decks);
-    step(t, Call::Load, &cards[..n])
-}
-
-// One call of the plan; only a load is lent an order.
-fn stepped(p: Plan, t: Table) -> Stepped {
-    if p.stage == plan::LOAD {
-        return loaded(p, t);
-    }
-    step(t, plan::chosen(p, t), b"")
+    step(t, plan::chosen(p), &cards[..n])
 }
 
 // The checksum after these calls.
 fn played(calls: u64) -> u64 {
     let mut p = plan::start();
     let mut t = opened(p);
+    let mut cards = house::order_of(p.decks, p.seed);
     let mut sum: u64 = 0;
     for n in 0..calls {
         if p.stage == plan::OPEN {
             t = opened(p);
             p.stage = plan::FILL;
         }
-        let s = stepped(p, t);
+        if p.stage == plan::LOAD {
+            cards = house::order_of(p.decks, p.seed);
+        }
+        let s = stepped(p, t, cards);
         let answer = s.answer;
         t = s.table;
         sum = checksum::of_step(sum, answer, t);

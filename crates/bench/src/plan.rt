@@ -32,12 +32,14 @@ pub const OPEN: u8 = 11;
 // Rounds of one session.
 const ROUNDS: u8 = 40;
 
-// The stage and the seat it has come to; decks and round of the session; whether the last decision was refused; a number that decides.
+// The stage and the seat it has come to; decks and round of the session; whose turn it is, 9 where it is nobody's; whether the last decision was
+// refused; a number that decides.
 pub struct Plan {
     pub stage: u8,
     pub seat: u8,
     pub decks: u8,
     pub round: u8,
+    pub turn: u8,
     pub refused: bool,
     pub seed: u32,
 }
@@ -48,6 +50,7 @@ pub fn start() -> Plan {
         seat: 0,
         decks: 1,
         round: 0,
+        turn: 9,
         refused: false,
         seed: 1,
     }
@@ -70,7 +73,7 @@ fn decision(p: Plan, at: At) -> Call {
     }
 }
 
-pub fn chosen(p: Plan, t: Table) -> Call {
+pub fn chosen(p: Plan) -> Call {
     let at = At { seat: p.seat };
     let stage = p.stage;
     match stage {
@@ -84,12 +87,7 @@ pub fn chosen(p: Plan, t: Table) -> Call {
         CLOSE => Call::Close,
         VOID => Call::Void,
         LOAD => Call::Load,
-        _ => decision(
-            p,
-            At {
-                seat: (turn_seat(t) % 10) as u8,
-            },
-        ),
+        _ => decision(p, At { seat: p.turn }),
     }
 }
 
@@ -143,7 +141,8 @@ fn round_ended(p: Plan) -> Plan {
 fn decided(p: Plan, number: u8, t: Table) -> Plan {
     let mut next = p;
     next.refused = number != 0;
-    if turn_seat(t) < 9 {
+    next.turn = (turn_seat(t) % 10) as u8;
+    if next.turn < 9 {
         return next;
     }
     next.refused = false;

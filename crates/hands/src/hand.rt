@@ -5,7 +5,7 @@ ghost use Rattle.hands.specs.Hand.{emptyHand, withCard};
 
 pub struct Hand {
     pub cards: [u8; 20],
-    pub count: usize,
+    pub count: u8,
 }
 
 // A hand with no card.
@@ -22,13 +22,13 @@ pub fn empty_hand() -> Hand
 pub fn with_card(h: Hand, card: u8) -> Hand
     ensures { λ r. ⌜ r ≡ withCard h card ⌝ }
 {
-    let at = h.count;
+    let at = h.count as usize;
     if 20 <= at {
         return h;
     }
     let mut next = h;
     next.cards[at] = card;
-    next.count = at + 1;
+    next.count = h.count + 1;
     next
 }
 
@@ -36,6 +36,6 @@ pub fn with_card(h: Hand, card: u8) -> Hand
 pub fn held(h: Hand) -> usize
     ensures { λ r. ⌜ r ≡ min (h .count) 20 ⌝ }
 {
-    let count = h.count;
+    let count = h.count as usize;
     if count < 20 { count } else { 20 }
 }

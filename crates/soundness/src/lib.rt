@@ -42,7 +42,7 @@ fn sound_hands(o: Options, dealt: bool, s: Seat) -> bool
     if hands.many == 0 {
         return !dealt || !(0 < m.stake);
     }
-    hands.many <= (o.hands as usize) && (dealt && (0 < m.stake && all_sound(hands)))
+    hands.many <= o.hands && (dealt && (0 < m.stake && all_sound(hands)))
 }
 
 // The prizes are within purse and laid, compared so that no sum wraps.

@@ -63,7 +63,7 @@ fn kept_card(h: Hand, k: usize) -> u8
     requires { ⌜ k < 20 ⌝ }
     ensures { λ r. ⌜ r ≡ getD (cardsOf h) k 0 ⌝ }
 {
-    if h.count <= k {
+    if (h.count as usize) <= k {
         return 0;
     }
     h.cards[k]
@@ -103,10 +103,8 @@ fn split_seat(o: Options, card: u8, s: Seat, first: u8, second: u8) -> Seat
     let parent = split_hand(kept_card(pair, 0), first);
     let new = split_hand(kept_card(pair, 1), second);
     let places = split_places(old, p, parent, new);
-    let more = SeatHands {
-        places,
-        many: hands.many + 1,
-    };
+    let many = hands.many + 1;
+    let more = SeatHands { places, many };
     let mut next = with_purse(s, money.purse - (money.stake as u64));
     next.hands = more;
     next

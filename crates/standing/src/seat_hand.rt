@@ -33,14 +33,14 @@ pub struct SeatHand {
 // Up to four hands by place, and how many there are.
 pub struct SeatHands {
     pub places: [SeatHand; 4],
-    pub many: usize,
+    pub many: u8,
 }
 
 // How many of the four places the seat uses: its count, and four where a damaged count says more.
 pub fn used(s: SeatHands) -> usize
     ensures { λ r. ⌜ r ≡ min (s .many) 4 ⌝ }
 {
-    let many = s.many;
+    let many = s.many as usize;
     if many < 4 { many } else { 4 }
 }
 

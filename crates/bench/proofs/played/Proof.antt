@@ -6,10 +6,10 @@ use Rattle.bench.proofs.played.Statement.{statement}
 use Rattle.bench.proofs.played.Tie as tie
 
 abbrev Inv-loop : tie.InvT-loop
-Inv-loop calls p₀ t₀ sum₀ n₀ p t sum n = (n ≤ calls) × (calls ≤ 18446744073709551615)
+Inv-loop calls p₀ t₀ cards₀ sum₀ n₀ p t cards sum n = (n ≤ calls) × (calls ≤ 18446744073709551615)
 
 abbrev μ-loop : tie.MeasureT-loop
-μ-loop calls p₀ t₀ sum₀ n₀ p t sum n = calls - n
+μ-loop calls p₀ t₀ cards₀ sum₀ n₀ p t cards sum n = calls - n
 
 start-requires : tie.Need-start-requires Inv-loop μ-loop
 start-requires c κs = search needs
@@ -17,11 +17,17 @@ start-requires c κs = search needs
 opened-requires : tie.Need-opened-requires Inv-loop μ-loop
 opened-requires c κs = search needs
 
+order-of-requires : tie.Need-order-of-requires Inv-loop μ-loop
+order-of-requires c κs = search needs
+
 loop-holds : tie.Need-loop-holds Inv-loop μ-loop
 loop-holds c = omega arith
 
 opened-requires-2 : tie.Need-opened-requires-2 Inv-loop μ-loop
 opened-requires-2 c κs = search needs
+
+order-of-requires-2 : tie.Need-order-of-requires-2 Inv-loop μ-loop
+order-of-requires-2 c κs = search needs
 
 stepped-requires : tie.Need-stepped-requires Inv-loop μ-loop
 stepped-requires c κs = search needs
@@ -52,8 +58,10 @@ played-spec =
     μ-loop
     start-requires
     opened-requires
+    order-of-requires
     loop-holds
     opened-requires-2
+    order-of-requires-2
     stepped-requires
     of-step-requires
     after-requires

@@ -15,9 +15,6 @@ returns-2 : tie.Need-returns-2
 unfolding soundHands
 returns-2 c = simp (c .before .before .if1 .taken, not-false (c .before .before .before .before .before .before .args .dealt) (c .before .if2 .left), or-false)
 
-cast-if3 : tie.Need-cast-if3
-cast-if3 c = search needs
-
 all-sound-requires : tie.Need-all-sound-requires
 all-sound-requires c κs = search needs
 
@@ -69,7 +66,6 @@ sound-hands-spec =
     (tie.spec
     returns
     returns-2
-    cast-if3
     all-sound-requires
     returns-3
     returns-4

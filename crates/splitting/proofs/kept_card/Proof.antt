@@ -7,6 +7,9 @@ use lib.Seq.{getD-take}
 use Rattle.splitting.proofs.kept_card.Statement.{statement}
 use Rattle.splitting.proofs.kept_card.Tie as tie
 
+cast-if1 : tie.Need-cast-if1
+cast-if1 c = search needs
+
 returns : tie.Need-returns
 returns c =
     let h = c .before .args .t1 in
@@ -21,4 +24,4 @@ returns-2 c =
     sym (getD-take (h .count) (h .cards) (c .before .before .args .k) 0 (omega arith))
 
 pub kept-card-spec : {M : Type 1} → statement M
-kept-card-spec = tie.close (tie.spec returns element-copy-out-result returns-2)
+kept-card-spec = tie.close (tie.spec cast-if1 returns element-copy-out-result returns-2)

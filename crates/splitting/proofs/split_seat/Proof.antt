@@ -34,8 +34,8 @@ split-places-requires c κs =
     let full : length (s .hands .places) ≡ 4 = simp length-map at (start .good .1 .1 .0 .1 .1 .1 .0 .1 .1 .0 .1 .0 .1) in
     omega (arith, place-of-four (start .args .o) (start .args .card) s full (start .pre .waits), read .waiting-place .ensures)
 
-add-t18 : tie.Need-add-t18
-add-t18 c = search needs
+add-many : tie.Need-add-many
+add-many c = search needs
 
 cast-with-purse : tie.Need-cast-with-purse
 cast-with-purse c = search needs
@@ -69,7 +69,7 @@ split-seat-spec =
     kept-card-requires-2
     split-hand-requires-2
     split-places-requires
-    add-t18
+    add-many
     cast-with-purse
     sub-with-purse
     with-purse-requires

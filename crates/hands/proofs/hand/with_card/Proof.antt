@@ -5,6 +5,9 @@ use Rattle.hands.specs.Hand.{withCard}
 use Rattle.hands.proofs.hand.with_card.Statement.{statement}
 use Rattle.hands.proofs.hand.with_card.Tie as tie
 
+cast-at : tie.Need-cast-at
+cast-at c = search needs
+
 returns : tie.Need-returns
 unfolding withCard
 returns c = simp (le-ltb _ _ (c .if1 .taken))
@@ -17,7 +20,7 @@ add-next c = search needs
 
 returns-2 : tie.Need-returns-2
 unfolding withCard
-returns-2 c = simp (lt-ltb _ _ (c .if1 .left))
+returns-2 c = simp (lt-ltb _ _ (c .before .if1 .left))
 
 pub with-card-spec : {M : Type 1} → statement M
-with-card-spec = tie.close (tie.spec returns element-write-next add-next returns-2)
+with-card-spec = tie.close (tie.spec cast-at returns element-write-next add-next returns-2)
