@@ -1,34 +1,50 @@
 // Number 1: whether a table is broken (docs/BROKEN.md). Any table value is taken: counts past their arrays, sums that would not fit, bytes
 // that are no card, codes out of range.
 ghost use mathlib.Core.Path.{_≡_};
+ghost use mathlib.Core.Bool.{_&&_};
 ghost use Rattle.lists.specs.Below.{allBelow};
 ghost use Rattle.table.specs.Broken.{seatSound, soundBank, soundMoney, sound as isSound, broken as isBroken};
 ghost use Rattle.sums.specs.Sums.{tableSums};
-use faces::faces_sound;
-use faces::shoe_sound;
+ghost use Rattle.broken.specs.OfSeats.{OfSeats};
+use conserved::cards_conserved;
 use limits::over_limit;
 use options::in_range;
 use round::is_dealt;
 use round::up;
 use soundness::sound_seat;
 use sums::Sums;
-use sums::table_sums;
+use sums::plus;
+use sums::seat_sums;
 use table::Table;
 
-// Each of the nine seats.
-fn seats_sound(t: Table) -> bool
-    ensures { λ r. ⌜ r ≡ allBelow (seatSound t) 9 ⌝ }
+// What one pass over the seats gives: whether each is sound, and, where each is, their sums.
+struct Survey {
+    sound: bool,
+    sums: Sums,
+}
+
+// The pass over the nine seats.
+fn surveyed(t: Table) -> Survey
+    ensures { λ r. ⌜ OfSeats t r ⌝ }
 {
     let o = t.options;
     let dealt = is_dealt(t);
     let ace = cards::is_ace(up(t));
+    let mut sums = Sums {
+        laid: 0,
+        prizes: 0,
+        cover: 0,
+        purses: 0,
+    };
     for i in 0usize..9 {
         let s = t.seats[i];
-        if !sound_seat(o, dealt, ace, i, s) {
-            return false;
+        let m = seat_sums(o, s);
+        if !sound_seat(o, dealt, ace, i, s, m) {
+            return Survey { sound: false, sums };
         }
+        sums = plus(sums, m);
     }
-    true
+    Survey { sound: true, sums }
 }
 
 // The bank has no card, or one in a round with a stake. `m`: the sums over the seats, worked out once.
@@ -54,14 +70,20 @@ fn money_sound(t: Table, m: Sums) -> bool
     m.cover <= t.tray || m.cover - t.tray <= m.prizes
 }
 
+// The seats, the bank and the money.
+fn seats_sound(t: Table) -> bool
+    ensures { λ r. ⌜ r ≡ (allBelow (seatSound t) 9 && soundBank t && soundMoney t) ⌝ }
+{
+    let v = surveyed(t);
+    let m = v.sums;
+    v.sound && (bank_sound(t, m) && money_sound(t, m))
+}
+
 fn sound(t: Table) -> bool
     ensures { λ r. ⌜ r ≡ isSound t ⌝ }
 {
     let o = t.options;
-    let m = table_sums(t);
-    in_range(o)
-        && (shoe_sound(t)
-            && (faces_sound(t) && (seats_sound(t) && (bank_sound(t, m) && money_sound(t, m)))))
+    in_range(o) && (cards_conserved(t) && seats_sound(t))
 }
 
 pub fn broken(t: Table) -> bool

@@ -36,16 +36,3 @@ pub fn each_face(of: &[u16; 256], times: u16) -> bool
     }
     all
 }
-
-// Whether two have the same count of every byte.
-pub fn same_counts(a: &[u16; 256], b: &[u16; 256]) -> bool
-    ensures { λ r. ⌜ r ≡ allBelow (λ byte. eqb (getD (now (a .entry)) byte 0) (getD (now (b .entry)) byte 0)) 256 ⌝ }
-{
-    let mut same = true;
-    for byte in 0usize..256 {
-        if a[byte] != b[byte] {
-            same = false;
-        }
-    }
-    same
-}

@@ -24,11 +24,6 @@ module _ {A B : Type 0} where
   map-take f (suc n) [] = refl
   map-take f (suc n) (x ∷ xs) = ap (λ (ys : List B). f x ∷ ys) (map-take f n xs)
 
-  pub map-drop : (f : A → B) (n : ℕ) (xs : List A) → map f (drop n xs) ≡ drop n (map f xs)
-  map-drop f zero xs = refl
-  map-drop f (suc n) [] = refl
-  map-drop f (suc n) (x ∷ xs) = map-drop f n xs
-
 module _ {A : Type 0} where
   -- below the length the default does not matter
   pub getD-any : (xs : List A) (i : ℕ) (d e : A) → i < length xs → getD xs i d ≡ getD xs i e

@@ -19,16 +19,6 @@ module _ {A : Type 0} where
       go (yes h) = let same : m ≡ n = omega arith in ap (λ (k : ℕ). take k xs) same
       go (no h) = take-all m xs (omega arith) ∙ sym (take-all n xs (omega arith))
 
-  -- the first of the first ones: the lesser number of them
-  pub take-lesser : (n m : ℕ) (xs : List A) → take n (take m xs) ≡ take (min n m) xs
-  take-lesser n m xs = go (decLe n m)
-    where
-      go : Dec (n ≤ m) → take n (take m xs) ≡ take (min n m) xs
-      go (yes h) = let same : n ≡ min n m = omega arith in take-take n m xs h ∙ ap (λ (k : ℕ). take k xs) same
-      go (no h) =
-          let same : m ≡ min n m = omega arith in
-          take-all n (take m xs) (omega (arith, length-take m xs)) ∙ ap (λ (k : ℕ). take k xs) same
-
   -- below the list's length, a test of how many are taken is a test of the count
   pub count-taken : (xs : List A) (n k : ℕ) → k < length xs → eqb (length (take n xs)) k ≡ eqb n k
   count-taken xs n k h = go (decLe n (length xs))

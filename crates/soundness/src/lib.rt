@@ -1,11 +1,16 @@
 // Whether a seat of any table value is sound (docs/BROKEN.md, 4): its number, stake, insurance, hands and prizes, tested as
 // `table/specs/Broken.antt` does. `dealt`: a round is dealt; `ace`: the up card is one. Every damaged value is taken.
 ghost use mathlib.Core.Path.{_≡_};
-ghost use Rattle.table.specs.Broken.{soundNumber, soundStake, soundInsurance, soundHands, soundPrizes, soundSeat};
+ghost use Prim.Native.Nat.{_+_};
+ghost use lib.Dec.{leb};
+ghost use Rattle.table.specs.Seat.{purse};
+ghost use Rattle.table.specs.Broken.{soundNumber, soundStake, soundInsurance, soundHands, soundSeat};
+ghost use Rattle.sums.specs.Sums.{seatSums};
 use amounts::insurance_permitted;
 use amounts::stake_permitted;
 use options::Options;
 use playable::all_sound;
+use sums::Sums;
 use table::Seat;
 
 // A seat beyond the option holds nothing.
@@ -46,19 +51,20 @@ fn sound_hands(o: Options, dealt: bool, s: Seat) -> bool
 }
 
 // The prizes are within purse and laid, compared so that no sum wraps.
-fn sound_prizes(o: Options, s: Seat) -> bool
-    ensures { λ r. ⌜ r ≡ soundPrizes o s ⌝ }
+fn sound_prizes(s: Seat, m: Sums) -> bool
+    ensures { λ r. ⌜ r ≡ leb (m .prizes) (purse s + m .laid) ⌝ }
 {
-    let m = s.money;
-    let prizes = seat_money::prizes(o, s);
-    prizes <= m.purse || prizes - m.purse <= seat_money::laid(s)
+    let money = s.money;
+    m.prizes <= money.purse || m.prizes - money.purse <= m.laid
 }
 
-pub fn sound_seat(o: Options, dealt: bool, ace: bool, i: usize, s: Seat) -> bool
+// Public for broken alone, which works the seat's sums out once: so it asks that `m` is these.
+pub fn sound_seat(o: Options, dealt: bool, ace: bool, i: usize, s: Seat, m: Sums) -> bool
+    requires { ⌜ m ≡ seatSums o s ⌝ }
     ensures { λ r. ⌜ r ≡ soundSeat o dealt ace i s ⌝ }
 {
     sound_number(o, i, s)
         && (sound_stake(o, s)
             && (sound_insurance(o, dealt, ace, s)
-                && (sound_hands(o, dealt, s) && sound_prizes(o, s))))
+                && (sound_hands(o, dealt, s) && sound_prizes(s, m))))
 }

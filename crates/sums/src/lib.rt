@@ -28,7 +28,7 @@ fn cut(purse: u64) -> u64
 }
 
 // The sums of one seat.
-fn seat_sums(o: Options, s: Seat) -> Sums
+pub fn seat_sums(o: Options, s: Seat) -> Sums
     ensures same { λ r. ⌜ r ≡ seatSums o s ⌝ }
     ensures small { λ r. ⌜ Within 1 r ⌝ }
 {
@@ -41,8 +41,8 @@ fn seat_sums(o: Options, s: Seat) -> Sums
     }
 }
 
-// The sums of two groups of seats together.
-fn plus(a: Sums, b: Sums) -> Sums
+// The sums of two groups of seats together. Public for passes over the nine seats alone: so it asks that both are sums of at most nine.
+pub fn plus(a: Sums, b: Sums) -> Sums
     requires left { ⌜ Within 9 a ⌝ }
     requires right { ⌜ Within 9 b ⌝ }
     ensures { λ r. ⌜ r ≡ plusSums a b ⌝ }

@@ -36,13 +36,6 @@ counted-join {a} {b} {c} {xs} {ys} e f =
 pub counted-is : {a b xs ys : List ℕ} {k m l : ℕ} → Counted a b xs k m → xs ≡ ys → m ≤ l → Counted a b ys k l
 counted-is {a} e same h = record { counters = e .counters ∙ ap (tally a) same; number = e .number ∙ ap length same; few = omega arith }
 
--- two that are counted from zero on: their counters decide whether they have the same cards
-pub counts-decide : (out drawn xs ys : List ℕ) → out ≡ tally noCounts xs → drawn ≡ tally noCounts ys
-    → allBelow (λ b. eqb (getD out b 0) (getD drawn b 0)) 256 ≡ allBelow (λ b. eqb (count b xs) (count b ys)) 256
-counts-decide out drawn xs ys e f =
-    all-below-same (λ b. eqb (getD out b 0) (getD drawn b 0)) (λ b. eqb (count b xs) (count b ys)) 256
-    (λ b h. rw (e, f, tally-zeros xs b h, tally-zeros ys b h))
-
 -- the first cards of an array, of which a damaged count takes all
 module _ (a cards : List ℕ) (n k most : ℕ) (full : length cards ≡ most) where
   pub room-first : Room a most → Room a (length (take k cards))

@@ -5,7 +5,7 @@ ghost use lib.ListN.{take};
 ghost use Rattle.lists.specs.Flat.{flat};
 ghost use Rattle.hands.specs.Hand.{cardsOf};
 ghost use Rattle.standing.specs.SeatHand.{handsOf};
-ghost use Rattle.table.specs.Table.{handCards, tableDrawn};
+ghost use Rattle.table.specs.Table.{handCards};
 ghost use Rattle.table.specs.Faces.{outCards};
 ghost use Rattle.counters.specs.Tally.{Room};
 ghost use Rattle.tallies.specs.Counted.{Counted};
@@ -63,7 +63,7 @@ fn count_seats(of: &mut [u16; 256], t: Table) -> usize
     many
 }
 
-// The first n cards of an order or of the discards, all 416 where a damaged count says more.
+// The first n cards of the discards, all 416 where a damaged count says more.
 fn count_first(of: &mut [u16; 256], cards: [u8; 416], n: usize) -> usize
     requires { ⌜ Room (now of) 416 ⌝ }
     ensures { λ r. ⌜ Counted (now (of .entry)) (now (of .exit)) (take n cards) r 416 ⌝ }
@@ -85,15 +85,4 @@ pub fn count_out(of: &mut [u16; 256], t: Table) -> usize
     let cards = shoe.discards;
     let discards = count_first(of, cards, shoe.discarded);
     hands + bank + discards
-}
-
-// The drawn part of the order.
-pub fn count_drawn(of: &mut [u16; 256], t: Table) -> usize
-    requires { ⌜ Room (now of) 416 ⌝ }
-    ensures { λ r. ⌜ Counted (now (of .entry)) (now (of .exit)) (tableDrawn t) r 416 ⌝ }
-{
-    let options = t.options;
-    let shoe = t.shoe;
-    let cards = shoe.order;
-    count_first(of, cards, lesser(shoe.drawn, 52 * (options.decks as usize)))
 }

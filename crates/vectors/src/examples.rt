@@ -7,7 +7,7 @@ use script::card;
 use script::digit;
 use standing::seat_hand::SeatHand;
 
-// The hand of the cards that stand two letters each, up to the first space.
+// The hand of the cards that stand two letters each; a pair that begins with a space is none.
 pub fn hand_of(cards: &[u8]) -> Hand {
     let mut h = empty_hand();
     let mut i = 0;

@@ -1,5 +1,5 @@
 -- An order of another length is not valid; of an order of that length the counters of the faces decide.
-use mathlib.Core.Path.{_≡_, ap, _∙_}
+use mathlib.Core.Path.{_≡_, refl, ap, _∙_}
 use mathlib.Core.List.{List}
 use Prim.Native.Nat.{ℕ, _*_}
 use native.Mathlib.Omega.{arith}
@@ -40,8 +40,9 @@ returns-2 c =
     let filled = c .before .before in
     let right : length (start .args .order .now) ≡ 52 * start .args .decks = omega arith in
     c .each-face .ensures
-    ∙ faces-decide (start .args .decks) (start .args .order .now) _ right
+    ∙ faces-decide (start .args .decks) (start .args .order .now) (start .args .order .now) _ right
     (filled .count .ensures ∙ ap (λ (of : List ℕ). tally of (start .args .order .now)) (filled .before .before .no-counts .ensures))
+    (λ b. refl)
 
 pub valid-order-spec : {M : Type 1} → statement M
 valid-order-spec =

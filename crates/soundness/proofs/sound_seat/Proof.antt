@@ -1,9 +1,21 @@
 -- The tests are the definition's, in its order.
-use mathlib.Core.Path.{sym, _∙_}
+use mathlib.Core.Path.{_≡_, sym, ap, _∙_}
+use Prim.Native.Nat.{ℕ, _+_}
+use lib.Dec.{leb}
 use borrow.Author.Needs.{needs}
-use Rattle.table.specs.Broken.{soundSeat}
+use Rattle.options.specs.declared.Options.{Options}
+use Rattle.table.specs.declared.Seat.{Seat}
+use Rattle.table.specs.Seat.{purse}
+use Rattle.table.specs.Broken.{soundPrizes, soundSeat}
+use Rattle.sums.specs.declared.Sums.{Sums}
+use Rattle.sums.specs.Sums.{seatSums}
 use Rattle.soundness.proofs.sound_seat.Statement.{statement}
 use Rattle.soundness.proofs.sound_seat.Tie as tie
+
+-- the test of the prizes, by the seat's sums
+by-sums : (o : Options) (s : Seat) (m : Sums) → m ≡ seatSums o s → leb (m .prizes) (purse s + m .laid) ≡ soundPrizes o s
+unfolding soundPrizes
+by-sums o s m e = ap (λ (x : Sums). leb (x .prizes) (purse s + x .laid)) e
 
 sound-number-requires : tie.Need-sound-number-requires
 sound-number-requires c κs = search needs
@@ -23,12 +35,13 @@ sound-prizes-requires c κs = search needs
 returns : tie.Need-returns
 unfolding soundSeat
 returns c =
+    let start = c .before .before .before .before .before .before .before .before .before in
     simp (
       sym (c .before .before .before .before .before .before .before .before .sound-number .ensures) ∙ c .before .before .before .before .before .before .before .if1 .taken,
       sym (c .before .before .before .before .before .before .sound-stake .ensures) ∙ c .before .before .before .before .before .if2 .taken,
       sym (c .before .before .before .before .sound-insurance .ensures) ∙ c .before .before .before .if3 .taken,
       sym (c .before .before .sound-hands .ensures) ∙ c .before .if4 .taken,
-      c .sound-prizes .ensures,
+      c .sound-prizes .ensures ∙ by-sums (start .args .o) (start .args .s) (start .args .m) (start .pre),
     )
 
 returns-2 : tie.Need-returns-2

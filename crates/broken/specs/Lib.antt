@@ -1,0 +1,2 @@
+-- What the pass over the seats gives.
+pub mod OfSeats

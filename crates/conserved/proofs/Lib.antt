@@ -1,0 +1,2 @@
+-- Laws of cards that are counted beside those that are left.
+pub mod Beside
