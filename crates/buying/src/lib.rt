@@ -7,7 +7,7 @@ use between::between_number;
 use call::At;
 use limits::past_limit;
 use outcome::Outcome;
-use seats::seat_of;
+use seat_at::seat_of;
 use seats::with_purse;
 use seats::with_seat;
 use table::Table;

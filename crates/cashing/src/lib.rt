@@ -6,7 +6,7 @@ ghost use Rattle.cashier.specs.Cash.{cashConditions, cashEffect};
 use between::between_number;
 use call::At;
 use outcome::Outcome;
-use seats::seat_of;
+use seat_at::seat_of;
 use seats::with_purse;
 use seats::with_seat;
 use table::Table;

@@ -13,7 +13,8 @@ use Rattle.lists.proofs.Tests.{any-not-at, or-eq-false}
 use Rattle.standing.specs.SeatHand.{Played, playedOf, byStand, byDouble, bySurrender, byEven, byFive, hasTwoCards}
 use Rattle.turn.specs.Turn.{seatWaits}
 use Rattle.standing.proofs.Places.{many-hands}
-use Rattle.leaving.specs.Leaving.{permitsEven, permitsFive, seatDrew}
+use Rattle.leaving.specs.Leaving.{permitsEven, permitsFive}
+use Rattle.drew.specs.Drew.{seatDrew}
 use Rattle.stakes.proofs.Bounds.{wager-single, prize-same}
 use Rattle.call.specs.declared.At.{At}
 use Rattle.call.specs.declared.Call.the-variants.{Stand, Surrender, Even, Five}

@@ -7,7 +7,7 @@ use lib.ListN.{getD, set}
 use Rattle.lists.specs.Tests.{any}
 use Rattle.call.specs.Refusal.{Condition}
 use Rattle.standing.specs.declared.seat_hand.SeatHand.{SeatHand}
-use Rattle.leaving.specs.Leaving.{seatDrew}
+use Rattle.drew.specs.Drew.{seatDrew}
 use Rattle.table.specs.declared.Seat.{Seat}
 use Rattle.table.specs.declared.Table.{Table}
 use Rattle.table.specs.Seat.{noPlace, makeSeat, isStaked}

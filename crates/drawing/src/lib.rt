@@ -24,7 +24,7 @@ use permission::permits_double;
 use permission::permits_draw;
 use round::cards_left;
 use round::up;
-use seats::seat_of;
+use seat_at::seat_of;
 use seats::with_purse;
 use seats::with_seat;
 use shoe::card_ahead;

@@ -14,7 +14,7 @@ use in_turn::with_place;
 use options::Options;
 use outcome::Outcome;
 use round::up;
-use seats::seat_of;
+use seat_at::seat_of;
 use seats::with_seat;
 use table::Seat;
 use table::Table;

@@ -19,7 +19,7 @@ use leaving::permits_five;
 use options::Options;
 use outcome::Outcome;
 use round::up;
-use seats::seat_of;
+use seat_at::seat_of;
 use standing::seat_hand::BY_EVEN;
 use standing::seat_hand::BY_FIVE;
 use standing::seat_hand::BY_STAND;

@@ -26,7 +26,8 @@ use Rattle.standing.specs.Open.{evenOpen, fiveOpen}
 use Rattle.waiting.specs.Waits.{isTwoAces, acesWait, cardsWait, waits}
 use Rattle.bank.specs.Bank.{mustDraw}
 use Rattle.permission.specs.Permits.{permitsStand, takesCards, permitsDraw, permitsDouble, permitsSplit}
-use Rattle.leaving.specs.Leaving.{permitsEven, permitsFive, seatDrew, permitsSurrender}
+use Rattle.leaving.specs.Leaving.{permitsEven, permitsFive, permitsSurrender}
+use Rattle.drew.specs.Drew.{seatDrew}
 use Rattle.stakes.specs.Wager.{wager}
 use Rattle.payment.specs.HandPay.{handBack, againstBank, againstNatural, byTotals}
 use Rattle.payment.specs.Insurance.{insurancePay}

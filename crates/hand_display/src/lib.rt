@@ -4,7 +4,7 @@ ghost use Rattle.hand_display.specs.Shown.{nothingShown, handValues, pla
 use broken::broken;
 use hands::hand::Hand;
 use hands::hand::empty_hand;
-use seats::seat_of;
+use seat_at::seat_of;
 use stakes::wager;
 use standing::seat_hand::DEALT;
 use standing::seat_hand::NOT_ENDED;

@@ -1,15 +1,11 @@
 -- Document 01, "The seventeen calls", the guest: to which hand the rules permit even, five and surrender.
 -- By these a hand leaves with a pay that no card of the bank changes.
 -- Each is asked of a hand of a seat with `many` hands, against the up card `up`. A hand that does not wait may take none.
-use mathlib.Core.Bool.{Bool, not, _&&_, _||_}
-use mathlib.Core.List.{List}
+use mathlib.Core.Bool.{Bool, not, _&&_}
 use Prim.Native.Nat.{ℕ}
-use lib.Dec.{ltb}
-use lib.ListN.{length}
-use Rattle.lists.specs.Tests.{any}
 use Rattle.cards.specs.Card.{isAce}
 use Rattle.options.specs.declared.Options.{Options}
-use Rattle.standing.specs.SeatHand.{Played, hasTwoCards}
+use Rattle.standing.specs.SeatHand.{Played}
 use Rattle.standing.specs.Open.{evenOpen, fiveOpen}
 use Rattle.waiting.specs.Waits.{waits}
 
@@ -20,10 +16,6 @@ permitsEven o up many h = waits o up many h && evenOpen up h
 -- five (article 19): option on, exactly five cards, total at most 21, up card no ace.
 unfoldable pub permitsFive : Options → ℕ → ℕ → Played → Bool
 permitsFive o up many h = waits o up many h && fiveOpen o up h
-
--- A seat has drawn, doubled or split: it has more than one hand, or one that has not exactly two cards.
-unfoldable pub seatDrew : List Played → Bool
-seatDrew hands = ltb 1 (length hands) || any (λ h. not (hasTwoCards h)) hands
 
 -- surrender (article 18): up card no ace, before anyone has drawn, doubled or split in this round (`late`), while the hand waits.
 unfoldable pub permitsSurrender : Options → ℕ → Bool → ℕ → Played → Bool

@@ -4,7 +4,7 @@ use mathlib.Core.List.{List}
 use lib.Dec.{ltb}
 use Rattle.lists.specs.Tests.{any}
 use Rattle.standing.specs.SeatHand.{Played}
-use Rattle.leaving.specs.Leaving.{seatDrew}
+use Rattle.drew.specs.Drew.{seatDrew}
 
 -- The seat has drawn, doubled or split; or, where ends count, a hand of it has ended by a decision.
 abbrev pub acted : Bool → List Played → Bool

@@ -6,7 +6,7 @@ ghost use Rattle.standing.specs.SeatHand.{handsOf};
 ghost use Rattle.table.specs.Table.{seatsHands};
 ghost use Rattle.decisions.specs.Round.{anyDrew, anyDecided};
 ghost use Rattle.progress.specs.Acted.{acted};
-use leaving::seat_drew;
+use drew::seat_drew;
 use standing::seat_hand::NOT_ENDED;
 use standing::seat_hand::SeatHands;
 use standing::seat_hand::used;

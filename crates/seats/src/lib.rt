@@ -1,28 +1,9 @@
-// The seats: reading and storing one, and whether it has a stake. Every value is taken, a damaged one too.
+// The seats: storing one, whether it has a stake, another purse for it. Every value is taken, a damaged one too.
 ghost use mathlib.Core.Path.{_≡_};
-ghost use Prim.Native.Nat.{_<_};
 ghost use Rattle.table.specs.Seat.{isStaked, withPurse};
-ghost use Rattle.table.specs.Table.{seatAt, withSeat};
+ghost use Rattle.table.specs.Table.{withSeat};
 use table::Seat;
 use table::Table;
-
-// The seat of that number. An arm for each: a place that is known when the program is built costs no copy of the table.
-pub fn seat_of(t: Table, i: usize) -> Seat
-    requires { ⌜ i < 9 ⌝ }
-    ensures { λ r. ⌜ r ≡ seatAt t i ⌝ }
-{
-    match i {
-        0 => t.seats[0],
-        1 => t.seats[1],
-        2 => t.seats[2],
-        3 => t.seats[3],
-        4 => t.seats[4],
-        5 => t.seats[5],
-        6 => t.seats[6],
-        7 => t.seats[7],
-        _ => t.seats[8],
-    }
-}
 
 // The table with that seat in place i; the table itself where it has no such place.
 pub fn with_seat(t: Table, i: usize, s: Seat) -> Table

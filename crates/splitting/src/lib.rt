@@ -22,7 +22,7 @@ use outcome::Outcome;
 use patterns::pair::is_pair;
 use round::cards_left;
 use round::up;
-use seats::seat_of;
+use seat_at::seat_of;
 use seats::with_purse;
 use seats::with_seat;
 use shoe::card_ahead;

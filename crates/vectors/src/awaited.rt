@@ -20,7 +20,7 @@ pub fn of_seat(rule: u8, words: &[u8], o: Options, up: u8, s: SeatHands) {
     match rule {
         b'n' => number(words, waiting_place(o, up, s) as u64),
         b'a' => answer(words, seat_waits(o, up, s)),
-        b'r' => answer(words, leaving::seat_drew(s)),
+        b'r' => answer(words, drew::seat_drew(s)),
         _ => {}
     }
 }

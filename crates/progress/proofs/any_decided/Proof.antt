@@ -5,7 +5,7 @@ use lib.Dec.{ltb}
 use borrow.Author.Needs.{needs}
 use Rattle.lists.specs.Tests.{any}
 use Rattle.standing.specs.SeatHand.{Played}
-use Rattle.leaving.specs.Leaving.{seatDrew}
+use Rattle.drew.specs.Drew.{seatDrew}
 use Rattle.table.specs.Table.{seatsHands}
 use Rattle.decisions.specs.Round.{anyDrew, anyDecided}
 use Rattle.progress.proofs.Both.{any-both}

@@ -3,8 +3,8 @@ use mathlib.Core.Path.{_≡_, ap}
 use Prim.Native.Nat.{ℕ, _+_, _≤_, _<_}
 use native.Mathlib.Omega.{arith}
 use Rattle.table.specs.Table.{seatAt}
-use Rattle.seats.proofs.seat_of.Statement.{statement}
-use Rattle.seats.proofs.seat_of.Tie as tie
+use Rattle.seat_at.proofs.seat_of.Statement.{statement}
+use Rattle.seat_at.proofs.seat_of.Tie as tie
 
 -- Four numbers ruled out, from the least that is left.
 four-past : (i m : ℕ) → m ≤ i → (i ≡ m → ⊥) → (i ≡ m + 1 → ⊥) → (i ≡ m + 2 → ⊥) → (i ≡ m + 3 → ⊥) → m + 4 ≤ i

@@ -9,10 +9,10 @@ use Rattle.lists.specs.Tests.{any}
 use Rattle.lists.proofs.Takes.{take-one}
 use Rattle.lists.proofs.Tests.{any-one}
 use Rattle.standing.proofs.Places.{none, many-hands}
-use Rattle.leaving.specs.Leaving.{seatDrew}
+use Rattle.drew.specs.Drew.{seatDrew}
 use borrow.Author.Needs.{needs}
-use Rattle.leaving.proofs.seat_drew.Statement.{statement}
-use Rattle.leaving.proofs.seat_drew.Tie as tie
+use Rattle.drew.proofs.seat_drew.Statement.{statement}
+use Rattle.drew.proofs.seat_drew.Tie as tie
 
 used-requires : tie.Need-used-requires
 used-requires c κs = search needs

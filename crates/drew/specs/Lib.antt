@@ -1,0 +1,2 @@
+-- Whether a seat has drawn, doubled or split.
+pub mod Drew
