@@ -5,11 +5,12 @@ ghost use Rattle.outcome.specs.Outcome.{outcome};
 ghost use Rattle.cashier.specs.Buy.{buyConditions, buyEffect};
 use between::between_number;
 use call::At;
-use limits::past_limit;
+use limits::over_limit;
 use outcome::Outcome;
 use seat_at::seat_of;
 use seats::with_purse;
 use seats::with_seat;
+use sums::table_sums;
 use table::Table;
 
 fn buy_number(t: Table, at: At, n: u64) -> u8
@@ -22,7 +23,7 @@ fn buy_number(t: Table, at: At, n: u64) -> u8
     if n == 0 {
         return 14;
     }
-    if past_limit(t, n) {
+    if over_limit(t.tray, table_sums(t), n) {
         return 14;
     }
     0

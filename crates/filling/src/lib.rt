@@ -4,9 +4,10 @@ ghost use Rattle.call.specs.Refusal.{first};
 ghost use Rattle.outcome.specs.Outcome.{outcome};
 ghost use Rattle.cashier.specs.Fill.{fillConditions, fillEffect};
 use broken::broken;
-use limits::past_limit;
+use limits::over_limit;
 use outcome::Outcome;
 use round::is_dealt;
+use sums::table_sums;
 use table::Table;
 
 fn fill_number(t: Table, n: u64) -> u8
@@ -21,7 +22,7 @@ fn fill_number(t: Table, n: u64) -> u8
     if n == 0 {
         return 14;
     }
-    if past_limit(t, n) {
+    if over_limit(t.tray, table_sums(t), n) {
         return 14;
     }
     0

@@ -2,11 +2,9 @@
 ghost use mathlib.Core.Path.{_≡_};
 ghost use Prim.Native.Nat.{_+_};
 ghost use lib.Dec.{ltb};
-ghost use Rattle.table.specs.Money.{limit, pastLimit};
+ghost use Rattle.table.specs.Money.{limit};
 use sums::LIMIT;
 use sums::Sums;
-use sums::table_sums;
-use table::Table;
 
 // Whether tray, layout, purses and n more are past the limit. Each is tested first, so that their sum does not wrap.
 pub fn over_limit(tray: u64, m: Sums, n: u64) -> bool
@@ -25,11 +23,4 @@ pub fn over_limit(tray: u64, m: Sums, n: u64) -> bool
         return true;
     }
     LIMIT < tray + m.laid + m.purses + n
-}
-
-// Whether the table's money with n more is past the limit.
-pub fn past_limit(t: Table, n: u64) -> bool
-    ensures { λ r. ⌜ r ≡ pastLimit t n ⌝ }
-{
-    over_limit(t.tray, table_sums(t), n)
 }

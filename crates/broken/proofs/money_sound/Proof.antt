@@ -10,11 +10,11 @@ use borrow.Author.Tests.{le-leb, not-true, not-false}
 use Rattle.lists.proofs.Tests.{leb-not, leb-past}
 use Rattle.table.specs.declared.Table.{Table}
 use Rattle.table.specs.Table.{isDealt}
-use Rattle.table.specs.Money.{limit, layout, allMoney}
+use Rattle.table.specs.Money.{limit, allMoney}
 use Rattle.table.specs.Broken.{soundMoney}
 use Rattle.sums.specs.declared.Sums.{Sums}
 use Rattle.sums.specs.Sums.{tableSums}
-use Rattle.sums.proofs.Capping.{limit-capped}
+use Rattle.limits.proofs.Laws.{past-limit}
 use Rattle.broken.proofs.money_sound.Statement.{statement}
 use Rattle.broken.proofs.money_sound.Tie as tie
 
@@ -23,7 +23,7 @@ module _ (t : Table) (m : Sums) (same : m ≡ tableSums t) where
   within : (past : Bool) → past ≡ ltb limit (t .tray + m .laid + m .purses + 0) → leb (allMoney t) limit ≡ not past
   within past e =
       leb-not (allMoney t) limit
-      ∙ ap not (sym (e ∙ ap (λ (m : Sums). ltb limit (t .tray + m .laid + m .purses + 0)) same ∙ limit-capped (t .seats) (t .tray + layout t) 0 ∙ ap (ltb limit) (add-zero (allMoney t))))
+      ∙ ap not (sym (e ∙ past-limit t m 0 same ∙ ap (ltb limit) (add-zero (allMoney t))))
 
   -- within the limit, in a dealt round, the cover decides
   covers : leb (allMoney t) limit ≡ true → isDealt t ≡ true → leb (m .cover) (t .tray + m .prizes) ≡ soundMoney t

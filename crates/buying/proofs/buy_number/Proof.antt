@@ -3,6 +3,7 @@ use mathlib.Core.Path.{sym, _∙_}
 use borrow.Author.Needs.{needs}
 use borrow.Author.Tests.{eq-eqb, ne-eqb}
 use Rattle.call.proofs.Refusals.{first-before, first-here, first-next, first-last}
+use Rattle.limits.proofs.Laws.{past-limit}
 use Rattle.cashier.specs.Buy.{buyConditions}
 use Rattle.cashier.specs.Between.{betweenConditions}
 use Rattle.between.proofs.Answer.{between-behind}
@@ -25,24 +26,27 @@ returns-2 c =
     sym (between-behind (start .args .t) (start .args .at .seat) (sym (c .before .before .between-number .ensures) ∙ c .before .if1 .left) _
     ∙ first-here _ _ _ (eq-eqb _ _ (c .if2 .taken)))
 
-past-limit-requires : tie.Need-past-limit-requires
-past-limit-requires c κs = search needs
+table-sums-requires : tie.Need-table-sums-requires
+table-sums-requires c κs = search needs
+
+over-limit-requires : tie.Need-over-limit-requires
+over-limit-requires c κs = search needs
 
 returns-3 : tie.Need-returns-3
 unfolding buyConditions
 returns-3 c =
-    let start = c .before .before .before .before .before in
-    sym (between-behind (start .args .t) (start .args .at .seat) (sym (c .before .before .before .before .between-number .ensures) ∙ c .before .before .before .if1 .left) _
-    ∙ first-next _ _ _ (ne-eqb _ _ (c .before .before .if2 .left))
-    ∙ first-here _ _ _ (sym (c .before .past-limit .ensures) ∙ c .if3 .taken))
+    let start = c .before .before .before .before .before .before in
+    sym (between-behind (start .args .t) (start .args .at .seat) (sym (c .before .before .before .before .before .between-number .ensures) ∙ c .before .before .before .before .if1 .left) _
+    ∙ first-next _ _ _ (ne-eqb _ _ (c .before .before .before .if2 .left))
+    ∙ first-here _ _ _ (sym (c .before .over-limit .ensures ∙ past-limit (start .args .t) _ (start .args .n) (c .before .before .table-sums .ensures)) ∙ c .if3 .taken))
 
 returns-4 : tie.Need-returns-4
 unfolding buyConditions
 returns-4 c =
-    let start = c .before .before .before .before .before in
-    sym (between-behind (start .args .t) (start .args .at .seat) (sym (c .before .before .before .before .between-number .ensures) ∙ c .before .before .before .if1 .left) _
-    ∙ first-next _ _ _ (ne-eqb _ _ (c .before .before .if2 .left))
-    ∙ first-last _ _ (sym (c .before .past-limit .ensures) ∙ c .if3 .left))
+    let start = c .before .before .before .before .before .before in
+    sym (between-behind (start .args .t) (start .args .at .seat) (sym (c .before .before .before .before .before .between-number .ensures) ∙ c .before .before .before .before .if1 .left) _
+    ∙ first-next _ _ _ (ne-eqb _ _ (c .before .before .before .if2 .left))
+    ∙ first-last _ _ (sym (c .before .over-limit .ensures ∙ past-limit (start .args .t) _ (start .args .n) (c .before .before .table-sums .ensures)) ∙ c .if3 .left))
 
 pub buy-number-spec : {M : Type 1} → statement M
 buy-number-spec =
@@ -51,6 +55,7 @@ buy-number-spec =
     between-number-requires
     returns
     returns-2
-    past-limit-requires
+    table-sums-requires
+    over-limit-requires
     returns-3
     returns-4)

@@ -3,6 +3,7 @@ use mathlib.Core.Path.{sym, _∙_}
 use borrow.Author.Needs.{needs}
 use borrow.Author.Tests.{eq-eqb, ne-eqb}
 use Rattle.call.specs.Refusal.{first}
+use Rattle.limits.proofs.Laws.{past-limit}
 use Rattle.cashier.specs.Fill.{fillConditions}
 use Rattle.filling.proofs.fill_number.Statement.{statement}
 use Rattle.filling.proofs.fill_number.Tie as tie
@@ -34,27 +35,32 @@ returns-3 c =
       eq-eqb _ _ (c .if3 .taken),
     )
 
-past-limit-requires : tie.Need-past-limit-requires
-past-limit-requires c κs = search needs
+table-sums-requires : tie.Need-table-sums-requires
+table-sums-requires c κs = search needs
+
+over-limit-requires : tie.Need-over-limit-requires
+over-limit-requires c κs = search needs
 
 returns-4 : tie.Need-returns-4
 unfolding fillConditions first
 returns-4 c =
+    let start = c .before .before .before .before .before .before .before .before in
     simp (
-      sym (c .before .before .before .before .before .before .broken .ensures) ∙ c .before .before .before .before .before .if1 .left,
-      sym (c .before .before .before .before .is-dealt .ensures) ∙ c .before .before .before .if2 .left,
-      ne-eqb _ _ (c .before .before .if3 .left),
-      sym (c .before .past-limit .ensures) ∙ c .if4 .taken,
+      sym (c .before .before .before .before .before .before .before .broken .ensures) ∙ c .before .before .before .before .before .before .if1 .left,
+      sym (c .before .before .before .before .before .is-dealt .ensures) ∙ c .before .before .before .before .if2 .left,
+      ne-eqb _ _ (c .before .before .before .if3 .left),
+      sym (c .before .over-limit .ensures ∙ past-limit (start .args .t) _ (start .args .n) (c .before .before .table-sums .ensures)) ∙ c .if4 .taken,
     )
 
 returns-5 : tie.Need-returns-5
 unfolding fillConditions first
 returns-5 c =
+    let start = c .before .before .before .before .before .before .before .before in
     simp (
-      sym (c .before .before .before .before .before .before .broken .ensures) ∙ c .before .before .before .before .before .if1 .left,
-      sym (c .before .before .before .before .is-dealt .ensures) ∙ c .before .before .before .if2 .left,
-      ne-eqb _ _ (c .before .before .if3 .left),
-      sym (c .before .past-limit .ensures) ∙ c .if4 .left,
+      sym (c .before .before .before .before .before .before .before .broken .ensures) ∙ c .before .before .before .before .before .before .if1 .left,
+      sym (c .before .before .before .before .before .is-dealt .ensures) ∙ c .before .before .before .before .if2 .left,
+      ne-eqb _ _ (c .before .before .before .if3 .left),
+      sym (c .before .over-limit .ensures ∙ past-limit (start .args .t) _ (start .args .n) (c .before .before .table-sums .ensures)) ∙ c .if4 .left,
     )
 
 pub fill-number-spec : {M : Type 1} → statement M
@@ -66,6 +72,7 @@ fill-number-spec =
     is-dealt-requires
     returns-2
     returns-3
-    past-limit-requires
+    table-sums-requires
+    over-limit-requires
     returns-4
     returns-5)
