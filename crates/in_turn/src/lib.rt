@@ -10,7 +10,6 @@ use call::At;
 use in_round::round_number;
 use options::Options;
 use seat_at::seat_of;
-use seats::is_staked;
 use standing::seat_hand::SeatHand;
 use table::Seat;
 use table::Table;
@@ -27,7 +26,8 @@ pub fn turn_number(t: Table, at: At) -> u8
     }
     let j = at.seat as usize;
     let s = seat_of(t, j);
-    if !is_staked(s) {
+    let money = s.money;
+    if !(0 < money.stake) {
         return 10;
     }
     if turn_seat(t) != j {

@@ -14,7 +14,6 @@ use outcome::Outcome;
 use progress::any_decided;
 use round::up;
 use seat_at::seat_of;
-use seats::is_staked;
 use seats::with_seat;
 use table::Seat;
 use table::Table;
@@ -45,7 +44,7 @@ fn insure_number(t: Table, at: At, n: u64) -> u8
     if 0 < money.insurance {
         return 9;
     }
-    if !is_staked(s) {
+    if !(0 < money.stake) {
         return 10;
     }
     if any_decided(t) {

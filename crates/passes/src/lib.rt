@@ -8,7 +8,6 @@ ghost use Rattle.passes.specs.Passed.{handFor, give, serve, passed};
 use hands::hand::Hand;
 use hands::hand::empty_hand;
 use hands::hand::with_card;
-use seats::is_staked;
 use shoe::card_ahead;
 use standing::seat_hand::DEALT;
 use standing::seat_hand::NOT_ENDED;
@@ -21,7 +20,8 @@ use table::Table;
 fn taken(s: Seat) -> usize
     ensures { λ r. ⌜ r ≡ cond (isStaked s) 1 0 ⌝ }
 {
-    if is_staked(s) { 1 } else { 0 }
+    let money = s.money;
+    if 0 < money.stake { 1 } else { 0 }
 }
 
 // How many seats have a stake.
@@ -69,7 +69,8 @@ fn with_next(first: bool, s: Seat, card: u8) -> Seat
 fn served(first: bool, s: Seat, card: u8) -> Seat
     ensures { λ r. ⌜ r ≡ serve first s card ⌝ }
 {
-    if !is_staked(s) {
+    let money = s.money;
+    if !(0 < money.stake) {
         return s;
     }
     with_next(first, s, card)

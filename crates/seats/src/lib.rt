@@ -1,6 +1,6 @@
-// The seats: storing one, whether it has a stake, another purse for it. Every value is taken, a damaged one too.
+// The seats: storing one, another purse for it. Every value is taken, a damaged one too.
 ghost use mathlib.Core.Path.{_≡_};
-ghost use Rattle.table.specs.Seat.{isStaked, withPurse};
+ghost use Rattle.table.specs.Seat.{withPurse};
 ghost use Rattle.table.specs.Table.{withSeat};
 use table::Seat;
 use table::Table;
@@ -15,14 +15,6 @@ pub fn with_seat(t: Table, i: usize, s: Seat) -> Table
     let mut next = t;
     next.seats[i] = s;
     next
-}
-
-// Whether the seat has a stake.
-pub fn is_staked(s: Seat) -> bool
-    ensures { λ r. ⌜ r ≡ isStaked s ⌝ }
-{
-    let money = s.money;
-    0 < money.stake
 }
 
 // The seat with another purse.

@@ -10,7 +10,6 @@ use between::between_number;
 use call::At;
 use outcome::Outcome;
 use seat_at::seat_of;
-use seats::is_staked;
 use seats::with_seat;
 use table::Seat;
 use table::Table;
@@ -38,7 +37,7 @@ fn stake_number(t: Table, at: At, n: u64) -> u8
     }
     let s = seat_of(t, at.seat as usize);
     let money = s.money;
-    if is_staked(s) {
+    if 0 < money.stake {
         return 9;
     }
     if n == 0 {

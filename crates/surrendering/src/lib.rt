@@ -14,7 +14,6 @@ use outcome::Outcome;
 use progress::any_drew;
 use round::up;
 use seat_at::seat_of;
-use seats::is_staked;
 use seats::with_seat;
 use standing::seat_hand::BY_SURRENDER;
 use table::Seat;
@@ -33,7 +32,8 @@ fn surrender_number(t: Table, at: At) -> u8
     let card = up(t);
     let s = seat_of(t, at.seat as usize);
     let hands = s.hands;
-    if !is_staked(s) {
+    let money = s.money;
+    if !(0 < money.stake) {
         return 10;
     }
     if any_drew(t) {

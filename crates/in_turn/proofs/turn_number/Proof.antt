@@ -35,16 +35,13 @@ seat-of-requires c κs =
     let start = c .before .before .before in
     round-seat (start .args .t) (start .args .at .seat) (sym (c .before .before .round-number .ensures) ∙ c .before .if1 .left)
 
-is-staked-requires : tie.Need-is-staked-requires
-is-staked-requires c κs = search needs
-
 returns-2 : tie.Need-returns-2
 unfolding first
 returns-2 c =
-    let t = c .before .before .before .before .before .before .args .t in
-    let j = c .before .before .before .before .before .before .args .at .seat in
-    let staked : isStaked (seatAt t j) ≡ false = ap isStaked (sym (c .before .before .seat-of .ensures)) ∙ sym (c .before .is-staked .ensures) ∙ not-true _ (c .if2 .taken) in
-    rw (behind-round t j (sym (c .before .before .before .before .before .round-number .ensures) ∙ c .before .before .before .before .if1 .left), staked)
+    let t = c .before .before .before .before .before .before .before .args .t in
+    let j = c .before .before .before .before .before .before .before .args .at .seat in
+    let staked : isStaked (seatAt t j) ≡ false = ap isStaked (sym (c .before .before .before .seat-of .ensures)) ∙ not-true _ (c .if2 .taken) in
+    rw (behind-round t j (sym (c .before .before .before .before .before .before .round-number .ensures) ∙ c .before .before .before .before .before .if1 .left), staked)
 
 turn-seat-requires : tie.Need-turn-seat-requires
 turn-seat-requires c κs = search needs
@@ -52,20 +49,20 @@ turn-seat-requires c κs = search needs
 returns-3 : tie.Need-returns-3
 unfolding first
 returns-3 c =
-    let t = c .before .before .before .before .before .before .before .before .args .t in
-    let j = c .before .before .before .before .before .before .before .before .args .at .seat in
-    let staked : isStaked (seatAt t j) ≡ true = ap isStaked (sym (c .before .before .before .before .seat-of .ensures)) ∙ sym (c .before .before .before .is-staked .ensures) ∙ not-false _ (c .before .before .if2 .left) in
+    let t = c .before .before .before .before .before .before .before .before .before .args .t in
+    let j = c .before .before .before .before .before .before .before .before .before .args .at .seat in
+    let staked : isStaked (seatAt t j) ≡ true = ap isStaked (sym (c .before .before .before .before .before .seat-of .ensures)) ∙ not-false _ (c .before .before .if2 .left) in
     let turn : eqb (turnSeat (t .options) (up t) (seatsHands t)) j ≡ false = ap (λ (i : ℕ). eqb i j) (sym (c .before .turn-seat .ensures)) ∙ ne-eqb _ _ (c .if3 .taken) in
-    rw (behind-round t j (sym (c .before .before .before .before .before .before .before .round-number .ensures) ∙ c .before .before .before .before .before .before .if1 .left), staked, turn)
+    rw (behind-round t j (sym (c .before .before .before .before .before .before .before .before .round-number .ensures) ∙ c .before .before .before .before .before .before .before .if1 .left), staked, turn)
 
 returns-4 : tie.Need-returns-4
 unfolding first
 returns-4 c =
-    let t = c .before .before .before .before .before .before .before .before .args .t in
-    let j = c .before .before .before .before .before .before .before .before .args .at .seat in
-    let staked : isStaked (seatAt t j) ≡ true = ap isStaked (sym (c .before .before .before .before .seat-of .ensures)) ∙ sym (c .before .before .before .is-staked .ensures) ∙ not-false _ (c .before .before .if2 .left) in
+    let t = c .before .before .before .before .before .before .before .before .before .args .t in
+    let j = c .before .before .before .before .before .before .before .before .before .args .at .seat in
+    let staked : isStaked (seatAt t j) ≡ true = ap isStaked (sym (c .before .before .before .before .before .seat-of .ensures)) ∙ not-false _ (c .before .before .if2 .left) in
     let turn : eqb (turnSeat (t .options) (up t) (seatsHands t)) j ≡ true = ap (λ (i : ℕ). eqb i j) (sym (c .before .turn-seat .ensures)) ∙ eq-eqb _ _ (c .if3 .left) in
-    rw (behind-round t j (sym (c .before .before .before .before .before .before .before .round-number .ensures) ∙ c .before .before .before .before .before .before .if1 .left), staked, turn)
+    rw (behind-round t j (sym (c .before .before .before .before .before .before .before .before .round-number .ensures) ∙ c .before .before .before .before .before .before .before .if1 .left), staked, turn)
 
 pub turn-number-spec : {M : Type 1} → statement M
 turn-number-spec =
@@ -75,7 +72,6 @@ turn-number-spec =
     returns
     cast-j
     seat-of-requires
-    is-staked-requires
     returns-2
     turn-seat-requires
     returns-3

@@ -43,9 +43,6 @@ returns-2 c =
     sym (round-behind (start .args .t) (start .args .at .seat) (sym (round .before .round-number .ensures) ∙ round .if1 .left) _
     ∙ first-here _ _ _ (ap (λ (s : Seat). ltb 0 (insurance s)) (sym (seated .seat-of .ensures)) ∙ lt-ltb _ _ (c .if2 .taken)))
 
-is-staked-requires : tie.Need-is-staked-requires
-is-staked-requires c κs = search needs
-
 returns-3 : tie.Need-returns-3
 unfolding insureConditions
 returns-3 c =
@@ -54,7 +51,7 @@ returns-3 c =
     let start = round .before .before in
     sym (round-behind (start .args .t) (start .args .at .seat) (sym (round .before .round-number .ensures) ∙ round .if1 .left) _
     ∙ first-next _ _ _ (ap (λ (s : Seat). ltb 0 (insurance s)) (sym (seated .seat-of .ensures)) ∙ le-ltb _ _ (c .before .before .if2 .left))
-    ∙ first-here _ _ _ (ap (λ (s : Seat). not (isStaked s)) (sym (seated .seat-of .ensures)) ∙ ap not (sym (c .before .is-staked .ensures)) ∙ c .if3 .taken))
+    ∙ first-here _ _ _ (ap (λ (s : Seat). not (isStaked s)) (sym (seated .seat-of .ensures)) ∙ c .if3 .taken))
 
 any-decided-requires : tie.Need-any-decided-requires
 any-decided-requires c κs = search needs
@@ -67,7 +64,7 @@ returns-4 c =
     let start = round .before .before in
     sym (round-behind (start .args .t) (start .args .at .seat) (sym (round .before .round-number .ensures) ∙ round .if1 .left) _
     ∙ first-next _ _ _ (ap (λ (s : Seat). ltb 0 (insurance s)) (sym (seated .seat-of .ensures)) ∙ le-ltb _ _ (c .before .before .before .before .if2 .left))
-    ∙ first-next _ _ _ (ap (λ (s : Seat). not (isStaked s)) (sym (seated .seat-of .ensures)) ∙ ap not (sym (c .before .before .before .is-staked .ensures)) ∙ c .before .before .if3 .left)
+    ∙ first-next _ _ _ (ap (λ (s : Seat). not (isStaked s)) (sym (seated .seat-of .ensures)) ∙ c .before .before .if3 .left)
     ∙ first-here _ _ _ (sym (c .before .any-decided .ensures) ∙ c .if4 .taken))
 
 up-requires : tie.Need-up-requires
@@ -84,7 +81,7 @@ returns-5 c =
     let start = round .before .before in
     sym (round-behind (start .args .t) (start .args .at .seat) (sym (round .before .round-number .ensures) ∙ round .if1 .left) _
     ∙ first-next _ _ _ (ap (λ (s : Seat). ltb 0 (insurance s)) (sym (seated .seat-of .ensures)) ∙ le-ltb _ _ (c .before .before .before .before .before .before .before .if2 .left))
-    ∙ first-next _ _ _ (ap (λ (s : Seat). not (isStaked s)) (sym (seated .seat-of .ensures)) ∙ ap not (sym (c .before .before .before .before .before .before .is-staked .ensures)) ∙ c .before .before .before .before .before .if3 .left)
+    ∙ first-next _ _ _ (ap (λ (s : Seat). not (isStaked s)) (sym (seated .seat-of .ensures)) ∙ c .before .before .before .before .before .if3 .left)
     ∙ first-next _ _ _ (sym (c .before .before .before .before .any-decided .ensures) ∙ c .before .before .before .if4 .left)
     ∙ first-here _ _ _ (ap (λ (card : ℕ). not (isAce card)) (sym (c .before .before .up .ensures)) ∙ ap not (sym (c .before .is-ace .ensures)) ∙ c .if5 .taken))
 
@@ -96,7 +93,7 @@ returns-6 c =
     let start = round .before .before in
     sym (round-behind (start .args .t) (start .args .at .seat) (sym (round .before .round-number .ensures) ∙ round .if1 .left) _
     ∙ first-next _ _ _ (ap (λ (s : Seat). ltb 0 (insurance s)) (sym (seated .seat-of .ensures)) ∙ le-ltb _ _ (c .before .before .before .before .before .before .before .before .if2 .left))
-    ∙ first-next _ _ _ (ap (λ (s : Seat). not (isStaked s)) (sym (seated .seat-of .ensures)) ∙ ap not (sym (c .before .before .before .before .before .before .before .is-staked .ensures)) ∙ c .before .before .before .before .before .before .if3 .left)
+    ∙ first-next _ _ _ (ap (λ (s : Seat). not (isStaked s)) (sym (seated .seat-of .ensures)) ∙ c .before .before .before .before .before .before .if3 .left)
     ∙ first-next _ _ _ (sym (c .before .before .before .before .before .any-decided .ensures) ∙ c .before .before .before .before .if4 .left)
     ∙ first-next _ _ _ (ap (λ (card : ℕ). not (isAce card)) (sym (c .before .before .before .up .ensures)) ∙ ap not (sym (c .before .before .is-ace .ensures)) ∙ c .before .if5 .left)
     ∙ first-here _ _ _ (eq-eqb _ _ (c .if6 .taken)))
@@ -112,7 +109,7 @@ returns-7 c =
     let start = round .before .before in
     sym (round-behind (start .args .t) (start .args .at .seat) (sym (round .before .round-number .ensures) ∙ round .if1 .left) _
     ∙ first-next _ _ _ (ap (λ (s : Seat). ltb 0 (insurance s)) (sym (seated .seat-of .ensures)) ∙ le-ltb _ _ (c .before .before .before .before .before .before .before .before .before .before .if2 .left))
-    ∙ first-next _ _ _ (ap (λ (s : Seat). not (isStaked s)) (sym (seated .seat-of .ensures)) ∙ ap not (sym (c .before .before .before .before .before .before .before .before .before .is-staked .ensures)) ∙ c .before .before .before .before .before .before .before .before .if3 .left)
+    ∙ first-next _ _ _ (ap (λ (s : Seat). not (isStaked s)) (sym (seated .seat-of .ensures)) ∙ c .before .before .before .before .before .before .before .before .if3 .left)
     ∙ first-next _ _ _ (sym (c .before .before .before .before .before .before .before .any-decided .ensures) ∙ c .before .before .before .before .before .before .if4 .left)
     ∙ first-next _ _ _ (ap (λ (card : ℕ). not (isAce card)) (sym (c .before .before .before .before .before .up .ensures)) ∙ ap not (sym (c .before .before .before .before .is-ace .ensures)) ∙ c .before .before .before .if5 .left)
     ∙ first-next _ _ _ (ne-eqb _ _ (c .before .before .if6 .left))
@@ -126,7 +123,7 @@ returns-8 c =
     let start = round .before .before in
     sym (round-behind (start .args .t) (start .args .at .seat) (sym (round .before .round-number .ensures) ∙ round .if1 .left) _
     ∙ first-next _ _ _ (ap (λ (s : Seat). ltb 0 (insurance s)) (sym (seated .seat-of .ensures)) ∙ le-ltb _ _ (c .before .before .before .before .before .before .before .before .before .before .before .before .if2 .left))
-    ∙ first-next _ _ _ (ap (λ (s : Seat). not (isStaked s)) (sym (seated .seat-of .ensures)) ∙ ap not (sym (c .before .before .before .before .before .before .before .before .before .before .before .is-staked .ensures)) ∙ c .before .before .before .before .before .before .before .before .before .before .if3 .left)
+    ∙ first-next _ _ _ (ap (λ (s : Seat). not (isStaked s)) (sym (seated .seat-of .ensures)) ∙ c .before .before .before .before .before .before .before .before .before .before .if3 .left)
     ∙ first-next _ _ _ (sym (c .before .before .before .before .before .before .before .before .before .any-decided .ensures) ∙ c .before .before .before .before .before .before .before .before .if4 .left)
     ∙ first-next _ _ _ (ap (λ (card : ℕ). not (isAce card)) (sym (c .before .before .before .before .before .before .before .up .ensures)) ∙ ap not (sym (c .before .before .before .before .before .before .is-ace .ensures)) ∙ c .before .before .before .before .before .if5 .left)
     ∙ first-next _ _ _ (ne-eqb _ _ (c .before .before .before .before .if6 .left))
@@ -141,7 +138,7 @@ returns-9 c =
     let start = round .before .before in
     sym (round-behind (start .args .t) (start .args .at .seat) (sym (round .before .round-number .ensures) ∙ round .if1 .left) _
     ∙ first-next _ _ _ (ap (λ (s : Seat). ltb 0 (insurance s)) (sym (seated .seat-of .ensures)) ∙ le-ltb _ _ (c .before .before .before .before .before .before .before .before .before .before .before .before .if2 .left))
-    ∙ first-next _ _ _ (ap (λ (s : Seat). not (isStaked s)) (sym (seated .seat-of .ensures)) ∙ ap not (sym (c .before .before .before .before .before .before .before .before .before .before .before .is-staked .ensures)) ∙ c .before .before .before .before .before .before .before .before .before .before .if3 .left)
+    ∙ first-next _ _ _ (ap (λ (s : Seat). not (isStaked s)) (sym (seated .seat-of .ensures)) ∙ c .before .before .before .before .before .before .before .before .before .before .if3 .left)
     ∙ first-next _ _ _ (sym (c .before .before .before .before .before .before .before .before .before .any-decided .ensures) ∙ c .before .before .before .before .before .before .before .before .if4 .left)
     ∙ first-next _ _ _ (ap (λ (card : ℕ). not (isAce card)) (sym (c .before .before .before .before .before .before .before .up .ensures)) ∙ ap not (sym (c .before .before .before .before .before .before .is-ace .ensures)) ∙ c .before .before .before .before .before .if5 .left)
     ∙ first-next _ _ _ (ne-eqb _ _ (c .before .before .before .before .if6 .left))
@@ -157,7 +154,6 @@ insure-number-spec =
     cast-seat-of
     seat-of-requires
     returns-2
-    is-staked-requires
     returns-3
     any-decided-requires
     returns-4

@@ -30,22 +30,19 @@ seat-of-requires c κs =
     let start = c .before .before .before .before in
     between-seat (start .args .t) (start .args .at .seat) (sym (c .before .before .between-number .ensures) ∙ c .before .if1 .left)
 
-is-staked-requires : tie.Need-is-staked-requires
-is-staked-requires c κs = search needs
-
 returns-2 : tie.Need-returns-2
 unfolding stakeConditions
 returns-2 c =
     let start = c .before .before .before .before .before .before .before .before in
     sym (between-behind (start .args .t) (start .args .at .seat) (sym (c .before .before .before .before .before .before .between-number .ensures) ∙ c .before .before .before .before .before .if1 .left) _
-    ∙ first-here _ _ _ (ap (λ (s : Seat). isStaked s) (sym (c .before .before .before .seat-of .ensures)) ∙ sym (c .before .is-staked .ensures) ∙ c .if2 .taken))
+    ∙ first-here _ _ _ (ap isStaked (sym (c .before .before .before .seat-of .ensures)) ∙ lt-ltb _ _ (c .if2 .taken)))
 
 returns-3 : tie.Need-returns-3
 unfolding stakeConditions
 returns-3 c =
     let start = c .before .before .before .before .before .before .before .before .before in
     sym (between-behind (start .args .t) (start .args .at .seat) (sym (c .before .before .before .before .before .before .before .between-number .ensures) ∙ c .before .before .before .before .before .before .if1 .left) _
-    ∙ first-next _ _ _ (ap (λ (s : Seat). isStaked s) (sym (c .before .before .before .before .seat-of .ensures)) ∙ sym (c .before .before .is-staked .ensures) ∙ c .before .if2 .left)
+    ∙ first-next _ _ _ (ap isStaked (sym (c .before .before .before .before .seat-of .ensures)) ∙ le-ltb _ _ (c .before .if2 .left))
     ∙ first-here _ _ _ (eq-eqb _ _ (c .if3 .taken)))
 
 stake-permitted-requires : tie.Need-stake-permitted-requires
@@ -56,7 +53,7 @@ unfolding stakeConditions
 returns-4 c =
     let start = c .before .before .before .before .before .before .before .before .before .before .before in
     sym (between-behind (start .args .t) (start .args .at .seat) (sym (c .before .before .before .before .before .before .before .before .before .between-number .ensures) ∙ c .before .before .before .before .before .before .before .before .if1 .left) _
-    ∙ first-next _ _ _ (ap (λ (s : Seat). isStaked s) (sym (c .before .before .before .before .before .before .seat-of .ensures)) ∙ sym (c .before .before .before .before .is-staked .ensures) ∙ c .before .before .before .if2 .left)
+    ∙ first-next _ _ _ (ap isStaked (sym (c .before .before .before .before .before .before .seat-of .ensures)) ∙ le-ltb _ _ (c .before .before .before .if2 .left))
     ∙ first-next _ _ _ (ne-eqb _ _ (c .before .before .if3 .left))
     ∙ first-here _ _ _ (ap not (sym (c .before .stake-permitted .ensures)) ∙ c .if4 .taken))
 
@@ -66,7 +63,7 @@ returns-5 c =
     let start = c .before .before .before .before .before .before .before .before .before .before .before .before .before in
     let n = start .args .n in
     sym (between-behind (start .args .t) (start .args .at .seat) (sym (c .before .before .before .before .before .before .before .before .before .before .before .between-number .ensures) ∙ c .before .before .before .before .before .before .before .before .before .before .if1 .left) _
-    ∙ first-next _ _ _ (ap (λ (s : Seat). isStaked s) (sym (c .before .before .before .before .before .before .before .before .seat-of .ensures)) ∙ sym (c .before .before .before .before .before .before .is-staked .ensures) ∙ c .before .before .before .before .before .if2 .left)
+    ∙ first-next _ _ _ (ap isStaked (sym (c .before .before .before .before .before .before .before .before .seat-of .ensures)) ∙ le-ltb _ _ (c .before .before .before .before .before .if2 .left))
     ∙ first-next _ _ _ (ne-eqb _ _ (c .before .before .before .before .if3 .left))
     ∙ first-next _ _ _ (ap not (sym (c .before .before .before .stake-permitted .ensures)) ∙ c .before .before .if4 .left)
     ∙ first-here _ _ _ (ap (λ (s : Seat). ltb (purse s) n) (sym (c .before .before .before .before .before .before .before .before .seat-of .ensures)) ∙ lt-ltb _ _ (c .if5 .taken)))
@@ -77,7 +74,7 @@ returns-6 c =
     let start = c .before .before .before .before .before .before .before .before .before .before .before .before .before in
     let n = start .args .n in
     sym (between-behind (start .args .t) (start .args .at .seat) (sym (c .before .before .before .before .before .before .before .before .before .before .before .between-number .ensures) ∙ c .before .before .before .before .before .before .before .before .before .before .if1 .left) _
-    ∙ first-next _ _ _ (ap (λ (s : Seat). isStaked s) (sym (c .before .before .before .before .before .before .before .before .seat-of .ensures)) ∙ sym (c .before .before .before .before .before .before .is-staked .ensures) ∙ c .before .before .before .before .before .if2 .left)
+    ∙ first-next _ _ _ (ap isStaked (sym (c .before .before .before .before .before .before .before .before .seat-of .ensures)) ∙ le-ltb _ _ (c .before .before .before .before .before .if2 .left))
     ∙ first-next _ _ _ (ne-eqb _ _ (c .before .before .before .before .if3 .left))
     ∙ first-next _ _ _ (ap not (sym (c .before .before .before .stake-permitted .ensures)) ∙ c .before .before .if4 .left)
     ∙ first-last _ _ (ap (λ (s : Seat). ltb (purse s) n) (sym (c .before .before .before .before .before .before .before .before .seat-of .ensures)) ∙ le-ltb _ _ (c .if5 .left)))
@@ -90,7 +87,6 @@ stake-number-spec =
     returns
     cast-seat-of
     seat-of-requires
-    is-staked-requires
     returns-2
     returns-3
     stake-permitted-requires

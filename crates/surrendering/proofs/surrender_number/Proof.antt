@@ -31,38 +31,35 @@ seat-of-requires c κs =
     let start = c .before .before .before .before .before in
     round-seat (start .args .t) (start .args .at .seat) (sym (c .before .before .before .before .round-number .ensures) ∙ c .before .before .before .if1 .left)
 
-is-staked-requires : tie.Need-is-staked-requires
-is-staked-requires c κs = search needs
-
 returns-2 : tie.Need-returns-2
 returns-2 c =
-    let read = c .before .before .before in
+    let read = c .before .before .before .before in
     let start = read .before .before .before .before .before .before in
     let round = sym (read .before .before .before .before .before .round-number .ensures) ∙ read .before .before .before .before .if1 .left in
     asked (start .args .t) (start .args .at .seat) _ _ (read .before .before .up .ensures) (read .seat-of .ensures) round
-    false _ _ _ (sym (c .before .is-staked .ensures) ∙ not-true _ (c .if2 .taken)) refl refl refl
+    false _ _ _ (not-true _ (c .if2 .taken)) refl refl refl
 
 any-drew-requires : tie.Need-any-drew-requires
 any-drew-requires c κs = search needs
 
 returns-3 : tie.Need-returns-3
 returns-3 c =
-    let read = c .before .before .before .before .before in
+    let read = c .before .before .before .before .before .before in
     let start = read .before .before .before .before .before .before in
     let round = sym (read .before .before .before .before .before .round-number .ensures) ∙ read .before .before .before .before .if1 .left in
     asked (start .args .t) (start .args .at .seat) _ _ (read .before .before .up .ensures) (read .seat-of .ensures) round
-    true true _ _ (sym (c .before .before .before .is-staked .ensures) ∙ not-false _ (c .before .before .if2 .left)) (sym (c .before .any-drew .ensures) ∙ c .if3 .taken) refl refl
+    true true _ _ (not-false _ (c .before .before .if2 .left)) (sym (c .before .any-drew .ensures) ∙ c .if3 .taken) refl refl
 
 seat-waits-requires : tie.Need-seat-waits-requires
 seat-waits-requires c κs = search needs
 
 returns-4 : tie.Need-returns-4
 returns-4 c =
-    let read = c .before .before .before .before .before .before .before in
+    let read = c .before .before .before .before .before .before .before .before in
     let start = read .before .before .before .before .before .before in
     let round = sym (read .before .before .before .before .before .round-number .ensures) ∙ read .before .before .before .before .if1 .left in
     asked (start .args .t) (start .args .at .seat) _ _ (read .before .before .up .ensures) (read .seat-of .ensures) round
-    true false false _ (sym (c .before .before .before .before .before .is-staked .ensures) ∙ not-false _ (c .before .before .before .before .if2 .left)) (sym (c .before .before .before .any-drew .ensures) ∙ c .before .before .if3 .left)
+    true false false _ (not-false _ (c .before .before .before .before .if2 .left)) (sym (c .before .before .before .any-drew .ensures) ∙ c .before .before .if3 .left)
     (sym (c .before .seat-waits .ensures) ∙ not-true _ (c .if4 .taken)) refl
 
 is-ace-requires : tie.Need-is-ace-requires
@@ -70,20 +67,20 @@ is-ace-requires c κs = search needs
 
 returns-5 : tie.Need-returns-5
 returns-5 c =
-    let read = c .before .before .before .before .before .before .before .before .before in
+    let read = c .before .before .before .before .before .before .before .before .before .before in
     let start = read .before .before .before .before .before .before in
     let round = sym (read .before .before .before .before .before .round-number .ensures) ∙ read .before .before .before .before .if1 .left in
     asked (start .args .t) (start .args .at .seat) _ _ (read .before .before .up .ensures) (read .seat-of .ensures) round
-    true false true true (sym (c .before .before .before .before .before .before .before .is-staked .ensures) ∙ not-false _ (c .before .before .before .before .before .before .if2 .left)) (sym (c .before .before .before .before .before .any-drew .ensures) ∙ c .before .before .before .before .if3 .left) (sym (c .before .before .before .seat-waits .ensures) ∙ not-false _ (c .before .before .if4 .left))
+    true false true true (not-false _ (c .before .before .before .before .before .before .if2 .left)) (sym (c .before .before .before .before .before .any-drew .ensures) ∙ c .before .before .before .before .if3 .left) (sym (c .before .before .before .seat-waits .ensures) ∙ not-false _ (c .before .before .if4 .left))
     (sym (c .before .is-ace .ensures) ∙ c .if5 .taken)
 
 returns-6 : tie.Need-returns-6
 returns-6 c =
-    let read = c .before .before .before .before .before .before .before .before .before in
+    let read = c .before .before .before .before .before .before .before .before .before .before in
     let start = read .before .before .before .before .before .before in
     let round = sym (read .before .before .before .before .before .round-number .ensures) ∙ read .before .before .before .before .if1 .left in
     asked (start .args .t) (start .args .at .seat) _ _ (read .before .before .up .ensures) (read .seat-of .ensures) round
-    true false true false (sym (c .before .before .before .before .before .before .before .is-staked .ensures) ∙ not-false _ (c .before .before .before .before .before .before .if2 .left)) (sym (c .before .before .before .before .before .any-drew .ensures) ∙ c .before .before .before .before .if3 .left) (sym (c .before .before .before .seat-waits .ensures) ∙ not-false _ (c .before .before .if4 .left))
+    true false true false (not-false _ (c .before .before .before .before .before .before .if2 .left)) (sym (c .before .before .before .before .before .any-drew .ensures) ∙ c .before .before .before .before .if3 .left) (sym (c .before .before .before .seat-waits .ensures) ∙ not-false _ (c .before .before .if4 .left))
     (sym (c .before .is-ace .ensures) ∙ c .if5 .left)
 
 pub surrender-number-spec : {M : Type 1} → statement M
@@ -95,7 +92,6 @@ surrender-number-spec =
     up-requires
     cast-seat-of
     seat-of-requires
-    is-staked-requires
     returns-2
     any-drew-requires
     returns-3
