@@ -29,7 +29,7 @@ use paying::seats_back;
 use round::is_dealt;
 use sums::table_sums;
 use table::Table;
-use turns::some_waits;
+use turns::turn_seat;
 
 // The numbers that do not ask for the bank's cards: 1, 5, 7.
 fn early_number(t: Table) -> u8
@@ -42,7 +42,7 @@ fn early_number(t: Table) -> u8
     if !is_dealt(t) {
         return 5;
     }
-    if some_waits(t) {
+    if turn_seat(t) < 9 {
         return 7;
     }
     0

@@ -10,7 +10,6 @@ use round::cards_left;
 use sums::table_sums;
 use table::Table;
 use turn_places::turn_place;
-use turns::some_waits;
 use turns::turn_seat;
 
 // The options; the tray, all layout and all purses; how many cards are left, how many are discards, and the bank's cards.
@@ -82,12 +81,13 @@ pub fn shown_turn(t: Table) -> TurnShown
     if broken(t) {
         return nobody();
     }
-    if !some_waits(t) {
+    let seat = turn_seat(t);
+    if 9 <= seat {
         return nobody();
     }
     TurnShown {
         somebody: true,
-        seat: turn_seat(t),
+        seat,
         place: turn_place(t),
     }
 }

@@ -1,18 +1,21 @@
 -- The walk over the hands of the seats of a table, seat by seat.
-use mathlib.Core.Path.{_≡_, _∙_, ap}
+use mathlib.Core.Path.{_≡_, sym, _∙_, ap}
 use mathlib.Core.Bool.{Bool, true, false}
 use mathlib.Core.List.{List, []}
 use Prim.Native.Nat.{ℕ, _+_, _<_}
 use native.Mathlib.Numerals.{add-one}
 use native.Mathlib.Omega.{arith}
+use lib.Dec.{ltb}
 use lib.ListN.{length, take, getD, length-map, List·getD-map}
 use lib.Seq.{take-all}
 use Rattle.lists.specs.Tests.{any, firstPlace}
-use Rattle.lists.proofs.Tests.{any-take, first-here, first-none}
+use Rattle.lists.proofs.Tests.{any-take, first-here, first-none, first-inside}
 use Rattle.standing.specs.SeatHand.{Played}
 use Rattle.table.specs.declared.Table.{Table}
 use Rattle.table.specs.Seat.{noSeat, hands}
-use Rattle.table.specs.Table.{seatAt, seatsHands}
+use Rattle.table.specs.Table.{seatAt, seatsHands, up}
+use Rattle.turn.specs.Turn.{seatWaits}
+use Rattle.turns.specs.Turns.{whoseSeat, anyWaits}
 
 pub hands-of : (t : Table) (i : ℕ) → getD (seatsHands t) i [] ≡ hands (seatAt t i)
 hands-of t i = List·getD-map hands (t .seats) i noSeat
@@ -20,6 +23,10 @@ hands-of t i = List·getD-map hands (t .seats) i noSeat
 module _ (t : Table) (full : length (t .seats) ≡ 9) where
   pub nine-seats : length (seatsHands t) ≡ 9
   nine-seats = length-map (t .seats) hands ∙ full
+
+  -- some hand waits exactly if the first seat with a waiting hand is one of the nine
+  pub waits-below : (i : ℕ) → i ≡ whoseSeat t → anyWaits t ≡ ltb i 9
+  waits-below i e = sym (ap (λ (k : ℕ). ltb k 9) e ∙ ap (ltb (whoseSeat t)) (sym nine-seats) ∙ first-inside (seatWaits (t .options) (up t)) (seatsHands t))
 
   module _ (test : List Played → Bool) (i : ℕ) (none : any test (take i (seatsHands t)) ≡ false) where
     -- the seat passes, and is the first

@@ -1,6 +1,6 @@
 // The seat whose turn it is, over the whole table. Every table is taken, a damaged count too.
 ghost use mathlib.Core.Path.{_≡_};
-ghost use Rattle.turns.specs.Turns.{whoseSeat, anyWaits};
+ghost use Rattle.turns.specs.Turns.{whoseSeat};
 use round::up;
 use table::Table;
 use turn::seat_waits;
@@ -19,11 +19,4 @@ pub fn turn_seat(t: Table) -> usize
         }
     }
     9
-}
-
-// Whether some hand on the table waits.
-pub fn some_waits(t: Table) -> bool
-    ensures { λ r. ⌜ r ≡ anyWaits t ⌝ }
-{
-    turn_seat(t) < 9
 }

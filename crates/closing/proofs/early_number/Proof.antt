@@ -1,10 +1,12 @@
 -- The conditions are asked in the order of the list; past the first the table is sound.
-use mathlib.Core.Path.{sym, _∙_}
+use mathlib.Core.Path.{_≡_, sym, _∙_}
 use native.Mathlib.Omega.{arith}
+use lib.ListN.{length, length-map}
 use borrow.Author.Needs.{needs}
-use borrow.Author.Tests.{not-true, not-false}
+use borrow.Author.Tests.{lt-ltb, le-ltb, not-true, not-false}
 use Rattle.call.specs.Refusal.{first}
 use Rattle.table.proofs.Facts.{unbroken}
+use Rattle.turns.proofs.Hands.{waits-below}
 use Rattle.settling.specs.Close.{closeConditions}
 use Rattle.closing.proofs.early_number.Statement.{statement}
 use Rattle.closing.proofs.early_number.Tie as tie
@@ -30,18 +32,20 @@ returns-2 c =
       λ none. absurd (omega arith),
     )
 
-some-waits-requires : tie.Need-some-waits-requires
-some-waits-requires c κs = search needs
+turn-seat-requires : tie.Need-turn-seat-requires
+turn-seat-requires c κs = search needs
 
 returns-3 : tie.Need-returns-3
 unfolding closeConditions first
 returns-3 c =
     let dealt = c .before .before in
-    let whole = dealt .before .before in (
+    let whole = dealt .before .before in
+    let t = whole .before .before .args .t in
+    let full : length (t .seats) ≡ 9 = simp length-map at (whole .before .before .good .0 .1 .1 .1 .1 .0 .1 .0 .1) in (
       simp (
         sym (whole .before .broken .ensures) ∙ whole .if1 .left,
         sym (dealt .before .is-dealt .ensures) ∙ not-false _ (dealt .if2 .left),
-        sym (c .before .some-waits .ensures) ∙ c .if3 .taken,
+        waits-below t full _ (c .before .turn-seat .ensures) ∙ lt-ltb _ _ (c .if3 .taken),
       ),
       λ none. absurd (omega arith),
     )
@@ -51,13 +55,15 @@ unfolding closeConditions first
 returns-4 c =
     let dealt = c .before .before in
     let whole = dealt .before .before in
+    let t = whole .before .before .args .t in
+    let full : length (t .seats) ≡ 9 = simp length-map at (whole .before .before .good .0 .1 .1 .1 .1 .0 .1 .0 .1) in
     let unharmed = sym (whole .before .broken .ensures) ∙ whole .if1 .left in (
       simp (
         unharmed,
         sym (dealt .before .is-dealt .ensures) ∙ not-false _ (dealt .if2 .left),
-        sym (c .before .some-waits .ensures) ∙ c .if3 .left,
+        waits-below t full _ (c .before .turn-seat .ensures) ∙ le-ltb _ _ (c .if3 .left),
       ),
-      λ none. unbroken (whole .before .before .args .t) unharmed,
+      λ none. unbroken t unharmed,
     )
 
 pub early-number-spec : {M : Type 1} → statement M
@@ -68,6 +74,6 @@ early-number-spec =
     returns
     is-dealt-requires
     returns-2
-    some-waits-requires
+    turn-seat-requires
     returns-3
     returns-4)

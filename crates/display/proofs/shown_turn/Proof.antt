@@ -1,7 +1,9 @@
--- The tests are the definition's, in its order.
-use mathlib.Core.Path.{sym, _∙_}
+-- The tests are the definition's, in its order: some hand waits exactly if the seat whose turn it is is one of the nine.
+use mathlib.Core.Path.{_≡_, sym, _∙_}
+use lib.ListN.{length, length-map}
 use borrow.Author.Needs.{needs}
-use borrow.Author.Tests.{not-true, not-false}
+use borrow.Author.Tests.{lt-ltb, le-ltb}
+use Rattle.turns.proofs.Hands.{waits-below}
 use Rattle.display.specs.Shown.{turnShown}
 use Rattle.display.proofs.shown_turn.Statement.{statement}
 use Rattle.display.proofs.shown_turn.Tie as tie
@@ -16,8 +18,8 @@ returns : tie.Need-returns
 unfolding turnShown
 returns c = rw (sym (c .before .before .broken .ensures) ∙ c .before .if1 .taken) (c .nobody .ensures)
 
-some-waits-requires : tie.Need-some-waits-requires
-some-waits-requires c κs = search needs
+turn-seat-requires : tie.Need-turn-seat-requires
+turn-seat-requires c κs = search needs
 
 nobody-requires-2 : tie.Need-nobody-requires-2
 nobody-requires-2 c κs = search needs
@@ -25,14 +27,14 @@ nobody-requires-2 c κs = search needs
 returns-2 : tie.Need-returns-2
 unfolding turnShown
 returns-2 c =
+    let seat = c .before .before in
+    let start = seat .before .before .before in
+    let full : length (start .args .t .seats) ≡ 9 = simp length-map at (start .good .0 .1 .1 .1 .1 .0 .1 .0 .1) in
     rw (
-      sym (c .before .before .before .before .broken .ensures) ∙ c .before .before .before .if1 .left,
-      sym (c .before .before .some-waits .ensures) ∙ not-true _ (c .before .if2 .taken),
+      sym (seat .before .before .broken .ensures) ∙ seat .before .if1 .left,
+      waits-below (start .args .t) full _ (seat .turn-seat .ensures) ∙ le-ltb _ _ (c .before .if2 .taken),
     )
     (c .nobody2 .ensures)
-
-turn-seat-requires : tie.Need-turn-seat-requires
-turn-seat-requires c κs = search needs
 
 turn-place-requires : tie.Need-turn-place-requires
 turn-place-requires c κs = search needs
@@ -40,10 +42,13 @@ turn-place-requires c κs = search needs
 returns-3 : tie.Need-returns-3
 unfolding turnShown
 returns-3 c =
+    let seat = c .before .before in
+    let start = seat .before .before .before in
+    let full : length (start .args .t .seats) ≡ 9 = simp length-map at (start .good .0 .1 .1 .1 .1 .0 .1 .0 .1) in
     rw (
-      sym (c .before .before .before .before .before .broken .ensures) ∙ c .before .before .before .before .if1 .left,
-      sym (c .before .before .before .some-waits .ensures) ∙ not-false _ (c .before .before .if2 .left),
-      c .before .turn-seat .ensures,
+      sym (seat .before .before .broken .ensures) ∙ seat .before .if1 .left,
+      waits-below (start .args .t) full _ (seat .turn-seat .ensures) ∙ lt-ltb _ _ (c .before .if2 .left),
+      seat .turn-seat .ensures,
       c .turn-place .ensures,
     )
 
@@ -54,9 +59,8 @@ shown-turn-spec =
     broken-requires
     nobody-requires
     returns
-    some-waits-requires
+    turn-seat-requires
     nobody-requires-2
     returns-2
-    turn-seat-requires
     turn-place-requires
     returns-3)
