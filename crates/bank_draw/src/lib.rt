@@ -24,6 +24,7 @@ pub fn bank_at_close(t: Table) -> Hand
     ensures { λ r. ⌜ cardsOf r ≡ bankAtClose t ⌝ }
 {
     let shoe = t.shoe;
+    let order = shoe.order;
     let left = cards_left(t);
     let burnt = bank_burn(t.options);
     let mut bank = t.bank;
@@ -31,7 +32,7 @@ pub fn bank_at_close(t: Table) -> Hand
         if !must_draw(bank) {
             return bank;
         }
-        bank = with_card(bank, card_ahead(shoe, n));
+        bank = with_card(bank, card_ahead(&order[..], shoe.drawn, n));
     }
     bank
 }

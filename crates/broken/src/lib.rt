@@ -36,8 +36,9 @@ fn surveyed(t: Table) -> Survey
         cover: 0,
         purses: 0,
     };
+    let seats = t.seats;
     for i in 0usize..9 {
-        let s = t.seats[i];
+        let s = seats[i];
         let m = seat_sums(o, s);
         if !sound_seat(o, dealt, ace, i, s, m) {
             return Survey { sound: false, sums };

@@ -39,9 +39,10 @@ pub fn burn(sh: Shoe, decks: u8, n: usize) -> Shoe
     ensures { λ r. ⌜ r ≡ discard sh (take n (leftOf decks sh)) ⌝ }
 {
     let at = sh.discarded;
+    let order = sh.order;
     let mut discards = sh.discards;
     for i in 0usize..n {
-        discards[at + i] = card_ahead(sh, i);
+        discards[at + i] = card_ahead(&order[..], sh.drawn, i);
     }
     let mut next = sh;
     next.discards = discards;

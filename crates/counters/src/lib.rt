@@ -30,9 +30,7 @@ pub fn each_face(of: &[u16; 256], times: u16) -> bool
 {
     let mut all = true;
     for face in 0usize..52 {
-        if of[face] != times {
-            all = false;
-        }
+        all = all & (of[face] == times);
     }
     all
 }

@@ -54,10 +54,11 @@ fn dealt(t: Table) -> Table
 {
     let o = t.options;
     let shoe = t.shoe;
+    let order = shoe.order;
     let burnt = burn_at_deal(o, shoe);
     let staked = staked_seats(t);
     let second = burnt + staked + 1;
-    let up = card_ahead(shoe, burnt + staked);
+    let up = card_ahead(&order[..], shoe.drawn, burnt + staked);
     let once = pass(t, true, burnt);
     let mut next = pass(once, false, second);
     next.bank = with_card(empty_hand(), up);

@@ -91,11 +91,12 @@ fn with_next_card(t: Table, at: At, code: u8) -> Table
 {
     let o = t.options;
     let shoe = t.shoe;
+    let order = shoe.order;
     let j = at.seat as usize;
     let card = up(t);
     let s = seat_of(t, j);
     let money = s.money;
-    let h = grown(o, card, s, card_ahead(shoe, 0), code);
+    let h = grown(o, card, s, card_ahead(&order[..], shoe.drawn, 0), code);
     let won = prize(o, money.stake, h);
     let more = more_of(s, code) as u64;
     let seat = grown_seat(o, card, s, h, money.purse - more + won);

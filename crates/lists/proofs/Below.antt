@@ -1,6 +1,6 @@
 -- Laws of tests and sums over the numbers below a number.
 use mathlib.Core.Path.{_≡_, refl, ap, ap₂, _∙_, sym}
-use mathlib.Core.Bool.{Bool, true, false, _&&_, and-eq-true-iff, and-true, and-false}
+use mathlib.Core.Bool.{Bool, true, false, _&&_, and-eq-true-iff, and-true}
 use mathlib.Core.List.{List, [], _∷_}
 use Prim.Native.Nat.{ℕ, zero, suc, _+_, _≤_, _<_}
 use native.Mathlib.Nat.{not-suc-le-zero, add-zero, add-suc}
@@ -29,13 +29,10 @@ unfolding allBelow
 below-all f zero h = refl
 below-all f (suc n) h = and-eq-true-iff (allBelow f n) (f n) .1 (below-all f n (λ k l. h k (omega arith)), h n (omega arith))
 
--- one number more: where it fails not every one passes, and where it passes those below it decide
-below-one-more : (f : ℕ → Bool) (n : ℕ) → allBelow f (n + 1) ≡ allBelow f n && f n
+-- one number more, and where it passes those below it decide
+pub below-one-more : (f : ℕ → Bool) (n : ℕ) → allBelow f (n + 1) ≡ allBelow f n && f n
 unfolding allBelow
 below-one-more f n = ap (allBelow f) (add-one n)
-
-pub below-fails : (f : ℕ → Bool) (n : ℕ) → f n ≡ false → allBelow f (n + 1) ≡ false
-below-fails f n e = below-one-more f n ∙ ap (λ (b : Bool). allBelow f n && b) e ∙ and-false (allBelow f n)
 
 pub below-passes : (f : ℕ → Bool) (n : ℕ) → f n ≡ true → allBelow f (n + 1) ≡ allBelow f n
 below-passes f n e = below-one-more f n ∙ ap (λ (b : Bool). allBelow f n && b) e ∙ and-true (allBelow f n)

@@ -83,11 +83,12 @@ pub fn pass(t: Table, first: bool, at: usize) -> Table
     ensures { λ r. ⌜ r ≡ passed first at t ⌝ }
 {
     let shoe = t.shoe;
+    let order = shoe.order;
     let mut next = t;
     let mut n = at;
     for i in 0usize..9 {
         let s = t.seats[i];
-        next.seats[i] = served(first, s, card_ahead(shoe, n));
+        next.seats[i] = served(first, s, card_ahead(&order[..], shoe.drawn, n));
         n += taken(s);
     }
     next

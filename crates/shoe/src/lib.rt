@@ -6,19 +6,20 @@ ghost use Rattle.table.specs.Shoe.{newShoe, drawn};
 ghost use Rattle.shoe.specs.Empty.{noCards};
 use table::Shoe;
 
-// The card n behind the next one, or 0 past the array. Each test is of a number that does not wrap.
-pub fn card_ahead(sh: Shoe, n: usize) -> u8
-    ensures { λ r. ⌜ r ≡ getD (sh .order) (sh .drawn + n) 0 ⌝ }
+// The card n behind the next one of an order of which so much is drawn, or 0 past its end. The order is lent, so that a loop copies no shoe. Each
+// test is of a number that does not wrap.
+pub fn card_ahead(order: &[u8], drawn: usize, n: usize) -> u8
+    ensures { λ r. ⌜ r ≡ getD (now (order .entry)) (drawn + n) 0 ⌝ }
 {
-    let drawn = sh.drawn;
-    if 416 <= drawn {
+    let all = order.len();
+    if all <= drawn {
         return 0;
     }
-    if 416 - drawn <= n {
+    if all - drawn <= n {
         return 0;
     }
     let at = drawn + n;
-    sh.order[at]
+    order[at]
 }
 
 // So many cards are drawn. Public for the calls alone, which draw only cards that are left: so it asks that the order has them.

@@ -119,8 +119,9 @@ fn split_table(t: Table, at: At) -> Table
     let s = seat_of(t, j);
     let card = up(t);
     let shoe = t.shoe;
-    let first = card_ahead(shoe, 0);
-    let second = card_ahead(shoe, 1);
+    let order = shoe.order;
+    let first = card_ahead(&order[..], shoe.drawn, 0);
+    let second = card_ahead(&order[..], shoe.drawn, 1);
     let next = split_seat(o, card, s, first, second);
     let rest = draw_cards(shoe, 2);
     let mut after = with_seat(t, j, next);

@@ -1,17 +1,28 @@
--- The pass over the seats: the sums of the first i seats with those of the next are the sums of the first i + 1, and have their bound.
+-- The pass over the seats: the sums of the first i seats with those of the next are the sums of the first i + 1, and have their bound. Of one
+-- seat, with a stake and an insurance of 32 bits, all but the cut purse are far below the limit.
 use mathlib.Core.Path.{_≡_, ap, _∙_}
 use mathlib.Core.List.{List}
-use Prim.Native.Nat.{ℕ, _+_, _<_}
+use Prim.Native.Nat.{ℕ, _+_, _≤_, _<_}
 use native.Mathlib.Numerals.{add-one}
 use native.Mathlib.Omega.{arith}
 use lib.ListN.{length, take, getD}
 use Rattle.lists.proofs.Sums.{sum-take}
 use Rattle.options.specs.declared.Options.{Options}
 use Rattle.table.specs.declared.Seat.{Seat}
-use Rattle.table.specs.Seat.{noSeat, purse, laid, prizes, seatCover}
+use Rattle.table.specs.Seat.{noSeat, stake, insurance, purse, laid, prizes, seatCover}
+use Rattle.seat_money.proofs.Hands.{laid-most, prizes-most}
 use Rattle.sums.specs.declared.Sums.{Sums}
 use Rattle.sums.specs.Sums.{capped, sumsOver, seatSums, plusSums}
 use Rattle.sums.specs.Within.{Within}
+
+pub seat-within : (o : Options) (s : Seat) → length (s .hands .places) ≡ 4 → stake s ≤ 4294967295 → insurance s ≤ 4294967295 → Within 1 (seatSums o s)
+seat-within o s full staked insured =
+    record {
+      laid = omega (arith, laid-most s full);
+      prizes = omega (arith, prizes-most s full o);
+      cover = omega arith;
+      purses = omega arith;
+    }
 
 module _ (o : Options) (seats : List Seat) (i : ℕ) (h : i < length seats) where
   one-more : plusSums (sumsOver o (take i seats)) (seatSums o (getD seats i noSeat)) ≡ sumsOver o (take (i + 1) seats)

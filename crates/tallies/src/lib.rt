@@ -54,9 +54,10 @@ fn count_seats(of: &mut [u16; 256], t: Table) -> usize
     requires { ⌜ Room (now of) 720 ⌝ }
     ensures { λ r. ⌜ Counted (now (of .entry)) (now (of .exit)) (handCards t) r 720 ⌝ }
 {
+    let seats = t.seats;
     let mut many: usize = 0;
     for i in 0usize..9 {
-        let s = t.seats[i];
+        let s = seats[i];
         let hands = s.hands;
         many += count_seat(of, hands);
     }

@@ -11,8 +11,9 @@ pub fn turn_seat(t: Table) -> usize
 {
     let o = t.options;
     let card = up(t);
+    let seats = t.seats;
     for i in 0usize..9 {
-        let s = t.seats[i];
+        let s = seats[i];
         let hands = s.hands;
         if seat_waits(o, card, hands) {
             return i;

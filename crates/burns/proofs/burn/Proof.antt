@@ -12,13 +12,18 @@ use Rattle.burns.proofs.burn.Statement.{statement}
 use Rattle.burns.proofs.burn.Tie as tie
 
 abbrev Inv-loop : tie.InvT-loop
-Inv-loop sh decks n at discards₀ i₀ discards i = (i ≤ n) × (discards ≡ sets (sh .discards) (sh .discarded) (take i (leftOf decks sh)))
+Inv-loop sh decks n at order discards₀ i₀ discards i = (i ≤ n) × (discards ≡ sets (sh .discards) (sh .discarded) (take i (leftOf decks sh)))
 
 abbrev μ-loop : tie.MeasureT-loop
-μ-loop sh decks n at discards₀ i₀ discards i = n - i
+μ-loop sh decks n at order discards₀ i₀ discards i = n - i
 
 loop-holds : tie.Need-loop-holds Inv-loop μ-loop
 loop-holds c = search needs
+
+slice-aggregate-card-ahead : tie.Need-slice-aggregate-card-ahead Inv-loop μ-loop
+slice-aggregate-card-ahead c =
+    let full : length (c .before .before .before .before .before .args .sh .order) ≡ 416 = search needs in
+    sym full
 
 card-ahead-requires : tie.Need-card-ahead-requires Inv-loop μ-loop
 card-ahead-requires c κs = search needs
@@ -37,8 +42,8 @@ loop-less c = omega arith
 
 loop-again : tie.Need-loop-again Inv-loop μ-loop
 loop-again c =
-    let at = c .before .before in
-    let a = at .before .before .args in
+    let at = c .before .before .before in
+    let a = at .before .before .before .args in
     let sh = a .sh in
     let i = at .loop .i in
     let full : length (sh .order) ≡ 416 = search needs in
@@ -51,7 +56,7 @@ add-next c = omega arith
 returns : tie.Need-returns Inv-loop μ-loop
 returns c =
     let at = c .before in
-    let a = at .before .before .args in
+    let a = at .before .before .before .args in
     let sh = a .sh in
     let left = leftOf (a .decks) sh in
     let full : length (sh .order) ≡ 416 = search needs in
@@ -66,6 +71,7 @@ burn-spec =
     Inv-loop
     μ-loop
     loop-holds
+    slice-aggregate-card-ahead
     card-ahead-requires
     add-discards
     array-write-discards

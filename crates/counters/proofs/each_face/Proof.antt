@@ -1,14 +1,13 @@
--- `each_face` looks face by face: before each turn it holds what those passed decide, and one that differs decides for good.
+-- `each_face` looks face by face: before each turn it holds what those passed decide.
 use mathlib.Core.Path.{_≡_, sym, ap, _∙_}
-use mathlib.Core.Logic.{⊎-elim}
+use mathlib.Core.Bool.{Bool, _&&_}
 use Prim.Native.Nat.{_-_, _≤_}
 use native.Mathlib.Omega.{arith}
 use borrow.Author.Needs.{needs}
-use borrow.Author.Tests.{ne-eqb, eq-eqb}
 use lib.Dec.{eqb}
 use lib.ListN.{getD}
 use Rattle.lists.specs.Below.{allBelow}
-use Rattle.lists.proofs.Below.{below-fails, below-passes}
+use Rattle.lists.proofs.Below.{below-one-more}
 use Rattle.counters.proofs.each_face.Statement.{statement}
 use Rattle.counters.proofs.each_face.Tie as tie
 
@@ -22,11 +21,11 @@ loop-holds : tie.Need-loop-holds Inv-loop μ-loop
 unfolding allBelow
 loop-holds c = search needs
 
-mul-if1 : tie.Need-mul-if1 Inv-loop μ-loop
-mul-if1 c = omega arith
+mul-all : tie.Need-mul-all Inv-loop μ-loop
+mul-all c = omega arith
 
-element-copy-out-if1 : tie.Need-element-copy-out-if1 Inv-loop μ-loop
-element-copy-out-if1 c = omega arith
+element-copy-out-all : tie.Need-element-copy-out-all Inv-loop μ-loop
+element-copy-out-all c = omega arith
 
 add-face : tie.Need-add-face Inv-loop μ-loop
 add-face c = omega arith
@@ -35,7 +34,10 @@ loop-less : tie.Need-loop-less Inv-loop μ-loop
 loop-less c = omega arith
 
 loop-again : tie.Need-loop-again Inv-loop μ-loop
-loop-again c = (omega arith, ⊎-elim (λ w. w .1 ∙ sym (below-fails _ _ (ne-eqb _ _ (w .0 .taken)))) (λ w. w .1 ∙ c .before .before .before .loop .inv .1 ∙ sym (below-passes _ _ (eq-eqb _ _ (w .0 .left)))) (c .if1 .came))
+loop-again c =
+    let at = c .before .before in
+    let args = at .before .args in
+    (omega arith, ap (λ (b : Bool). b && eqb (getD (args .of .now) (at .loop .face) 0) (args .times)) (at .loop .inv .1) ∙ sym (below-one-more _ _))
 
 returns : tie.Need-returns Inv-loop μ-loop
 returns c =
@@ -49,8 +51,8 @@ each-face-spec =
     Inv-loop
     μ-loop
     loop-holds
-    mul-if1
-    element-copy-out-if1
+    mul-all
+    element-copy-out-all
     add-face
     loop-less
     loop-again

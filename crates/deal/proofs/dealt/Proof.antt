@@ -24,6 +24,9 @@ add-second c = search needs
 add-second-2 : tie.Need-add-second-2
 add-second-2 c = search needs
 
+slice-aggregate-card-ahead : tie.Need-slice-aggregate-card-ahead
+slice-aggregate-card-ahead c = search needs
+
 add-card-ahead : tie.Need-add-card-ahead
 add-card-ahead c = search needs
 
@@ -44,10 +47,10 @@ with-card-requires c κs = search needs
 
 burn-requires : tie.Need-burn-requires
 burn-requires c κs =
-    let start = c .before .before .before .before .before .before .before .before .before in
+    let start = c .before .before .before .before .before .before .before .before .before .before .before in
     let full : length (start .args .t .shoe .discards) ≡ 416 = simp length-map at (start .good .0 .1 .1 .1 .1 .1 .1 .0 .1 .1 .1 .1 .0 .1 .0 .1) in
     let room = deal-room (start .args .t) full (start .pre) in
-    let burnt = c .before .before .before .before .before .before .burn-at-deal .ensures .0 in
+    let burnt = c .before .before .before .before .before .before .before .burn-at-deal .ensures .0 in
     (omega arith, omega arith, omega arith)
 
 deal-takes-requires : tie.Need-deal-takes-requires
@@ -55,7 +58,7 @@ deal-takes-requires c κs = search needs
 
 draw-cards-requires : tie.Need-draw-cards-requires
 draw-cards-requires c κs =
-    let start = c .before .before .before .before .before .before .before .before .before .before .before in
+    let start = c .before .before .before .before .before .before .before .before .before .before .before .before .before in
     let full : length (start .args .t .shoe .discards) ≡ 416 = simp length-map at (start .good .0 .1 .1 .1 .1 .1 .1 .0 .1 .1 .1 .1 .0 .1 .0 .1) in
     let room = deal-room (start .args .t) full (start .pre) in
     let same : c .before .burn .result .drawn ≡ start .args .t .shoe .drawn = ap (λ (sh : Shoe). sh .drawn) (c .before .burn .ensures) in
@@ -63,8 +66,8 @@ draw-cards-requires c κs =
 
 returns : tie.Need-returns
 returns c =
-    let t = c .before .before .before .before .before .before .before .before .before .before .before .before .args .t in
-    effect t (c .before .before .before .before .before .before .before .before .before .burn-at-deal .ensures .0) (c .before .before .before .before .before .before .before .before .staked-seats .ensures .0) (c .before .before .before .before .before .before .before .card-ahead .ensures)
+    let t = c .before .before .before .before .before .before .before .before .before .before .before .before .before .before .args .t in
+    effect t (c .before .before .before .before .before .before .before .before .before .before .burn-at-deal .ensures .0) (c .before .before .before .before .before .before .before .before .before .staked-seats .ensures .0) (c .before .before .before .before .before .before .before .card-ahead .ensures)
     (c .before .before .before .before .before .before .pass .ensures) (c .before .before .before .before .before .pass2 .ensures)
     (c .before .before .before .with-card .ensures ∙ ap (λ (h : Hand). withCard h (c .before .before .before .before .before .before .before .card-ahead .result)) (c .before .before .before .before .empty-hand .ensures))
     (c .draw-cards .ensures ∙ ap₂ drawn (c .before .before .burn .ensures) (c .before .deal-takes .ensures))
@@ -77,6 +80,7 @@ dealt-spec =
     staked-seats-requires
     add-second
     add-second-2
+    slice-aggregate-card-ahead
     add-card-ahead
     card-ahead-requires
     pass-requires

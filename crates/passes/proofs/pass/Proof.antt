@@ -1,5 +1,5 @@
 -- `pass` goes seat by seat: before each turn the first i seats have had theirs, and n is behind the cards that they took.
-use mathlib.Core.Path.{_≡_, _∙_, ap, ap₂}
+use mathlib.Core.Path.{_≡_, sym, _∙_, ap, ap₂}
 use mathlib.Core.List.{List}
 use Prim.Native.Nat.{_+_, _-_, _≤_}
 use native.Mathlib.Omega.{arith}
@@ -20,14 +20,14 @@ abbrev withSeats : Table → List Seat → Table
 withSeats t seats = makeTable (t .options) (t .tray) seats (t .bank) (t .shoe)
 
 abbrev Inv-loop : tie.InvT-loop
-Inv-loop first at t shoe next₀ n₀ i₀ next n i =
+Inv-loop first at t shoe order next₀ n₀ i₀ next n i =
     (i ≤ 9)
     × (next ≡ withSeats t (before (give first) (t .shoe .order) (t .shoe .drawn + at) (t .seats) i))
     × (n ≡ at + stakedSeats (take i (t .seats)))
     × (n ≤ at + i)
 
 abbrev μ-loop : tie.MeasureT-loop
-μ-loop first at t shoe next₀ n₀ i₀ next n i = 9 - i
+μ-loop first at t shoe order next₀ n₀ i₀ next n i = 9 - i
 
 loop-holds : tie.Need-loop-holds Inv-loop μ-loop
 unfolding sum
@@ -39,14 +39,20 @@ mul-s c = omega arith
 element-copy-out-s : tie.Need-element-copy-out-s Inv-loop μ-loop
 element-copy-out-s c = omega arith
 
+slice-aggregate-card-ahead : tie.Need-slice-aggregate-card-ahead Inv-loop μ-loop
+slice-aggregate-card-ahead c =
+    let start = c .before .before .before .before .before .before in
+    let full : length (start .args .t1 .shoe .order) ≡ 416 = simp length-map at (start .good .0 .1 .1 .1 .1 .1 .1 .0 .1 .1 .0 .1 .0 .1) in
+    sym full
+
 card-ahead-requires : tie.Need-card-ahead-requires Inv-loop μ-loop
 card-ahead-requires c κs = search needs
 
 served-requires : tie.Need-served-requires Inv-loop μ-loop
 served-requires c κs = search needs
 
-mul-t12 : tie.Need-mul-t12 Inv-loop μ-loop
-mul-t12 c = omega arith
+mul-t13 : tie.Need-mul-t13 Inv-loop μ-loop
+mul-t13 c = omega arith
 
 element-set-from-next : tie.Need-element-set-from-next Inv-loop μ-loop
 element-set-from-next c = search needs
@@ -56,8 +62,8 @@ taken-requires c κs = search needs
 
 add-n : tie.Need-add-n Inv-loop μ-loop
 add-n c =
-    let at = c .before .before .before .before .before in
-    omega (arith, one-most (seatAt (at .before .before .args .t1) (at .loop .i)))
+    let at = c .before .before .before .before .before .before in
+    omega (arith, one-most (seatAt (at .before .before .before .args .t1) (at .loop .i)))
 
 add-i : tie.Need-add-i Inv-loop μ-loop
 add-i c = omega arith
@@ -68,8 +74,8 @@ loop-less c = omega arith
 loop-again : tie.Need-loop-again Inv-loop μ-loop
 loop-again c =
     let card = c .before .before in
-    let here = card .before .before .before in
-    let start = here .before .before in
+    let here = card .before .before .before .before in
+    let start = here .before .before .before in
     let a = start .args in
     let t = a .t1 in
     let i = here .loop .i in
@@ -86,7 +92,7 @@ loop-again c =
 
 returns : tie.Need-returns Inv-loop μ-loop
 returns c =
-    let start = c .before .before .before in
+    let start = c .before .before .before .before in
     let a = start .args in
     let t = a .t1 in
     let full : length (t .seats) ≡ 9 = simp length-map at (start .good .0 .1 .1 .1 .1 .0 .1 .0 .1) in
@@ -101,9 +107,10 @@ pass-spec =
     loop-holds
     mul-s
     element-copy-out-s
+    slice-aggregate-card-ahead
     card-ahead-requires
     served-requires
-    mul-t12
+    mul-t13
     element-set-from-next
     taken-requires
     add-n

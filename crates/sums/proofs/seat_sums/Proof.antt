@@ -3,7 +3,7 @@ use mathlib.Core.Path.{_≡_}
 use native.Mathlib.Omega.{arith}
 use borrow.Author.Needs.{needs}
 use lib.ListN.{length, length-map}
-use Rattle.seat_money.proofs.Hands.{laid-most, prizes-most}
+use Rattle.sums.proofs.Pass.{seat-within}
 use Rattle.sums.proofs.seat_sums.Statement.{statement}
 use Rattle.sums.proofs.seat_sums.Tie as tie
 
@@ -25,12 +25,7 @@ returns c =
     let o = c .before .before .before .before .before .args .o in
     let full : length (s .hands .places) ≡ 4 = simp length-map at (c .before .before .before .before .before .good .1 .0 .1 .1 .1 .0 .1 .1 .0 .1 .0 .1) in (
       rw (c .before .before .before .laid .ensures, c .before .before .prizes .ensures, c .before .cover .ensures, c .cut .ensures),
-      record {
-        laid = omega (arith, laid-most s full);
-        prizes = omega (arith, prizes-most s full o);
-        cover = omega arith;
-        purses = omega arith;
-      },
+      rw (c .before .before .before .laid .ensures, c .before .before .prizes .ensures, c .before .cover .ensures, c .cut .ensures) (seat-within o s full (omega arith) (omega arith)),
     )
 
 pub seat-sums-spec : {M : Type 1} → statement M

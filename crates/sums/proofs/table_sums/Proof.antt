@@ -1,22 +1,23 @@
 -- `table_sums` adds seat by seat: before each turn the sums are those of the first i seats, each at most one past the limit for each seat.
-use mathlib.Core.Path.{_≡_, _∙_, ap}
+use mathlib.Core.Path.{_≡_, refl, _∙_, ap}
 use Prim.Native.Nat.{_-_, _≤_}
 use native.Mathlib.Omega.{arith}
 use borrow.Author.Needs.{needs}
-use lib.ListN.{length, take, length-map}
+use lib.ListN.{length, take, getD, length-map}
 use lib.Seq.{take-all}
 use Rattle.lists.specs.Sum.{sum}
-use Rattle.sums.specs.Sums.{sumsOver}
+use Rattle.table.specs.Seat.{noSeat}
+use Rattle.sums.specs.Sums.{sumsOver, seatSums}
 use Rattle.sums.specs.Within.{Within}
 use Rattle.sums.proofs.Pass.{next-seat, within-more}
 use Rattle.sums.proofs.table_sums.Statement.{statement}
 use Rattle.sums.proofs.table_sums.Tie as tie
 
 abbrev Inv-loop : tie.InvT-loop
-Inv-loop t o all₀ i₀ all i = (i ≤ 9) × (all ≡ sumsOver o (take i (t .seats))) × Within i all
+Inv-loop o all₀ seats i₀ all i = (i ≤ 9) × (all ≡ sumsOver o (take i seats)) × Within i all
 
 abbrev μ-loop : tie.MeasureT-loop
-μ-loop t o all₀ i₀ all i = 9 - i
+μ-loop o all₀ seats i₀ all i = 9 - i
 
 loop-holds : tie.Need-loop-holds Inv-loop μ-loop
 unfolding sum
@@ -25,14 +26,11 @@ loop-holds c = search needs
 mul-s : tie.Need-mul-s Inv-loop μ-loop
 mul-s c = search needs
 
-element-copy-out-s : tie.Need-element-copy-out-s Inv-loop μ-loop
-element-copy-out-s c = search needs
+array-copy-out-s : tie.Need-array-copy-out-s Inv-loop μ-loop
+array-copy-out-s c = search needs
 
-seat-sums-requires : tie.Need-seat-sums-requires Inv-loop μ-loop
-seat-sums-requires c κs = search needs
-
-plus-requires : tie.Need-plus-requires Inv-loop μ-loop
-plus-requires c κs = search needs
+with-seat-sums-requires : tie.Need-with-seat-sums-requires Inv-loop μ-loop
+with-seat-sums-requires c κs = search needs
 
 add-i : tie.Need-add-i Inv-loop μ-loop
 add-i c = search needs
@@ -42,18 +40,22 @@ loop-less c = search needs
 
 loop-again : tie.Need-loop-again Inv-loop μ-loop
 loop-again c =
-    let t = c .before .before .before .before .before .before .args .t1 in
-    let i = c .before .before .before .before .loop .i in
-    let full : length (t .seats) ≡ 9 = simp length-map at (c .before .before .before .before .before .before .good .0 .1 .1 .1 .1 .0 .1 .0 .1) in (
+    let at = c .before .before .before in
+    let start = at .before .before .before in
+    let t = start .args .t in
+    let i = at .loop .i in
+    let full : length (t .seats) ≡ 9 = simp length-map at (start .good .0 .1 .1 .1 .1 .0 .1 .0 .1) in
+    let one = seatSums (t .options) (getD (t .seats) i noSeat) in (
       omega arith,
-      c .plus .ensures ∙ next-seat (t .options) (t .seats) i (omega arith) (c .before .before .before .before .loop .all) (c .before .seat-sums .result) (c .before .before .before .before .loop .inv .1) (c .before .seat-sums .ensures .0),
-      within-more i (c .before .before .before .before .loop .all) (c .before .seat-sums .result) (c .plus .result) (c .before .before .before .before .loop .inv .2) (c .before .seat-sums .ensures .1) (c .plus .ensures),
+      c .with-seat-sums .ensures .0 ∙ next-seat (t .options) (t .seats) i (omega arith) (at .loop .all) one (at .loop .inv .1) refl,
+      within-more i (at .loop .all) one (c .with-seat-sums .result) (at .loop .inv .2) (c .with-seat-sums .ensures .1) (c .with-seat-sums .ensures .0),
     )
 
 returns : tie.Need-returns Inv-loop μ-loop
 returns c =
-    let t = c .before .before .before .args .t1 in
-    let full : length (t .seats) ≡ 9 = simp length-map at (c .before .before .before .good .0 .1 .1 .1 .1 .0 .1 .0 .1) in
+    let start = c .before .before .before .before in
+    let t = start .args .t in
+    let full : length (t .seats) ≡ 9 = simp length-map at (start .good .0 .1 .1 .1 .1 .0 .1 .0 .1) in
     c .before .loop .inv .1 ∙ ap (sumsOver (t .options)) (take-all (c .before .loop .i) (t .seats) (omega arith))
 
 pub table-sums-spec : {M : Type 1} → statement M
@@ -64,9 +66,8 @@ table-sums-spec =
     μ-loop
     loop-holds
     mul-s
-    element-copy-out-s
-    seat-sums-requires
-    plus-requires
+    array-copy-out-s
+    with-seat-sums-requires
     add-i
     loop-less
     loop-again
