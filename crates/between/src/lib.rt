@@ -1,17 +1,19 @@
-// What buy, cash and stake ask first: 1 broken, 4 a round is dealt, 8 no such seat.
+// What buy, cash and stake ask first: 1 broken, 4 a round is dealt, 8 no such seat. Public for these calls alone. `damaged`: whether
+// the table is broken, which the call works out itself, so that no copy of the table is made for this test; so it asks that this is so.
 ghost use mathlib.Core.Path.{_≡_};
 ghost use Rattle.call.specs.Refusal.{first};
 ghost use Rattle.cashier.specs.Between.{betweenConditions};
-use broken::broken;
+ghost use Rattle.table.specs.Broken.{broken as isBroken};
 use call::At;
 use round::is_dealt;
 use table::Table;
 
-pub fn between_number(t: Table, at: At) -> u8
+pub fn between_number(damaged: bool, t: Table, at: At) -> u8
+    requires { ⌜ damaged ≡ isBroken t ⌝ }
     ensures { λ r. ⌜ r ≡ first (betweenConditions t (at .seat)) ⌝ }
 {
     let o = t.options;
-    if broken(t) {
+    if damaged {
         return 1;
     }
     if is_dealt(t) {

@@ -4,6 +4,7 @@ ghost use Rattle.call.specs.Refusal.{first};
 ghost use Rattle.outcome.specs.Outcome.{outcome};
 ghost use Rattle.cashier.specs.Buy.{buyConditions, buyEffect};
 use between::between_number;
+use broken::broken;
 use call::At;
 use limits::over_limit;
 use outcome::Outcome;
@@ -16,7 +17,7 @@ use table::Table;
 fn buy_number(t: Table, at: At, n: u64) -> u8
     ensures { λ r. ⌜ r ≡ first (buyConditions t (at .seat) n) ⌝ }
 {
-    let number = between_number(t, at);
+    let number = between_number(broken(t), t, at);
     if number != 0 {
         return number;
     }

@@ -4,6 +4,7 @@ ghost use Rattle.call.specs.Refusal.{first};
 ghost use Rattle.outcome.specs.Outcome.{outcome};
 ghost use Rattle.cashier.specs.Cash.{cashConditions, cashEffect};
 use between::between_number;
+use broken::broken;
 use call::At;
 use outcome::Outcome;
 use seat_at::seat_of;
@@ -14,7 +15,7 @@ use table::Table;
 fn cash_number(t: Table, at: At, n: u64) -> u8
     ensures { λ r. ⌜ r ≡ first (cashConditions t (at .seat) n) ⌝ }
 {
-    let number = between_number(t, at);
+    let number = between_number(broken(t), t, at);
     if number != 0 {
         return number;
     }

@@ -6,6 +6,7 @@ ghost use Rattle.decisions.specs.Round.{placeOf, withPlace};
 ghost use Rattle.decisions.specs.Turn.{turnConditions};
 ghost use Rattle.table.specs.Seat.{hands as handsOf};
 ghost use Rattle.turn.specs.Turn.{seatWaits, waitingPlace};
+use broken::broken;
 use call::At;
 use in_round::round_number;
 use options::Options;
@@ -20,7 +21,7 @@ use turns::turn_seat;
 pub fn turn_number(t: Table, at: At) -> u8
     ensures { λ r. ⌜ r ≡ first (turnConditions t (at .seat)) ⌝ }
 {
-    let number = round_number(t, at);
+    let number = round_number(broken(t), t, at);
     if number != 0 {
         return number;
     }

@@ -7,6 +7,7 @@ ghost use Rattle.outcome.specs.Outcome.{outcome};
 ghost use Rattle.table.specs.Seat.{purse, stake, makeSeat, money as moneyOf};
 ghost use Rattle.decisions.specs.Insure.{insureConditions, insureEffect};
 use amounts::insurance_permitted;
+use broken::broken;
 use call::At;
 use cards::is_ace;
 use in_round::round_number;
@@ -34,7 +35,7 @@ fn insured(s: Seat, n: u64) -> Seat
 fn insure_number(t: Table, at: At, n: u64) -> u8
     ensures { λ r. ⌜ r ≡ first (insureConditions t (at .seat) n) ⌝ }
 {
-    let number = round_number(t, at);
+    let number = round_number(broken(t), t, at);
     if number != 0 {
         return number;
     }

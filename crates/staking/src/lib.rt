@@ -7,6 +7,7 @@ ghost use Rattle.table.specs.Seat.{purse, makeSeat, money as moneyOf, insurance
 ghost use Rattle.cashier.specs.Stake.{stakeConditions, stakeEffect};
 use amounts::stake_permitted;
 use between::between_number;
+use broken::broken;
 use call::At;
 use outcome::Outcome;
 use seat_at::seat_of;
@@ -31,7 +32,7 @@ fn stake_number(t: Table, at: At, n: u64) -> u8
     ensures { λ r. ⌜ r ≡ first (stakeConditions t (at .seat) n) ⌝ }
 {
     let o = t.options;
-    let number = between_number(t, at);
+    let number = between_number(broken(t), t, at);
     if number != 0 {
         return number;
     }

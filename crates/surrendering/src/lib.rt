@@ -6,6 +6,7 @@ ghost use Rattle.standing.specs.SeatHand.{bySurrender};
 ghost use Rattle.outcome.specs.Outcome.{outcome};
 ghost use Rattle.decisions.specs.Round.{placeOf, withPlace, endedBy};
 ghost use Rattle.decisions.specs.Surrender.{surrenderConditions, surrenderEffect};
+use broken::broken;
 use call::At;
 use cards::is_ace;
 use in_round::round_number;
@@ -24,7 +25,7 @@ use turn::seat_waits;
 fn surrender_number(t: Table, at: At) -> u8
     ensures { λ r. ⌜ r ≡ first (surrenderConditions t (at .seat)) ⌝ }
 {
-    let number = round_number(t, at);
+    let number = round_number(broken(t), t, at);
     if number != 0 {
         return number;
     }

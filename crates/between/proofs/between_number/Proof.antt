@@ -7,12 +7,9 @@ use Rattle.cashier.specs.Between.{betweenConditions}
 use Rattle.between.proofs.between_number.Statement.{statement}
 use Rattle.between.proofs.between_number.Tie as tie
 
-broken-requires : tie.Need-broken-requires
-broken-requires c κs = search needs
-
 returns : tie.Need-returns
 unfolding betweenConditions first
-returns c = simp (sym (c .before .broken .ensures) ∙ c .if1 .taken)
+returns c = simp (sym (c .before .before .pre) ∙ c .if1 .taken)
 
 is-dealt-requires : tie.Need-is-dealt-requires
 is-dealt-requires c κs = search needs
@@ -21,7 +18,7 @@ returns-2 : tie.Need-returns-2
 unfolding betweenConditions first
 returns-2 c =
     simp (
-      sym (c .before .before .before .broken .ensures) ∙ c .before .before .if1 .left,
+      sym (c .before .before .before .before .pre) ∙ c .before .before .if1 .left,
       sym (c .before .is-dealt .ensures) ∙ c .if2 .taken,
     )
 
@@ -29,7 +26,7 @@ returns-3 : tie.Need-returns-3
 unfolding betweenConditions first
 returns-3 c =
     simp (
-      sym (c .before .before .before .before .before .before .broken .ensures) ∙ c .before .before .before .before .before .if1 .left,
+      sym (c .before .before .before .before .before .before .before .pre) ∙ c .before .before .before .before .before .if1 .left,
       sym (c .before .before .before .before .is-dealt .ensures) ∙ c .before .before .before .if2 .left,
       le-leb _ _ (c .if3 .taken),
     )
@@ -38,7 +35,7 @@ returns-4 : tie.Need-returns-4
 unfolding betweenConditions first
 returns-4 c =
     simp (
-      sym (c .before .before .before .before .before .before .broken .ensures) ∙ c .before .before .before .before .before .if1 .left,
+      sym (c .before .before .before .before .before .before .before .pre) ∙ c .before .before .before .before .before .if1 .left,
       sym (c .before .before .before .before .is-dealt .ensures) ∙ c .before .before .before .if2 .left,
       lt-leb _ _ (c .if3 .left),
     )
@@ -47,7 +44,6 @@ pub between-number-spec : {M : Type 1} → statement M
 between-number-spec =
     tie.close
     (tie.spec
-    broken-requires
     returns
     is-dealt-requires
     returns-2

@@ -12,19 +12,22 @@ use Rattle.between.proofs.Answer.{between-behind, between-seat}
 use Rattle.cashing.proofs.cash_number.Statement.{statement}
 use Rattle.cashing.proofs.cash_number.Tie as tie
 
+broken-requires : tie.Need-broken-requires
+broken-requires c κs = search needs
+
 between-number-requires : tie.Need-between-number-requires
 between-number-requires c κs = search needs
 
 returns : tie.Need-returns
 unfolding cashConditions
 returns c =
-    let start = c .before .before in
+    let start = c .before .before .before in
     sym (first-before (betweenConditions (start .args .t) (start .args .at .seat)) _ _ (sym (c .before .between-number .ensures)) (c .if1 .taken))
 
 returns-2 : tie.Need-returns-2
 unfolding cashConditions
 returns-2 c =
-    let start = c .before .before .before in
+    let start = c .before .before .before .before in
     sym (between-behind (start .args .t) (start .args .at .seat) (sym (c .before .before .between-number .ensures) ∙ c .before .if1 .left) _
     ∙ first-here _ _ _ (eq-eqb _ _ (c .if2 .taken)))
 
@@ -33,13 +36,13 @@ cast-seat-of c = search needs
 
 seat-of-requires : tie.Need-seat-of-requires
 seat-of-requires c κs =
-    let start = c .before .before .before .before in
+    let start = c .before .before .before .before .before in
     between-seat (start .args .t) (start .args .at .seat) (sym (c .before .before .before .between-number .ensures) ∙ c .before .before .if1 .left)
 
 returns-3 : tie.Need-returns-3
 unfolding cashConditions
 returns-3 c =
-    let start = c .before .before .before .before .before .before .before .before in
+    let start = c .before .before .before .before .before .before .before .before .before in
     let n = start .args .n in
     sym (between-behind (start .args .t) (start .args .at .seat) (sym (c .before .before .before .before .before .before .before .between-number .ensures) ∙ c .before .before .before .before .before .before .if1 .left) _
     ∙ first-next _ _ _ (ne-eqb _ _ (c .before .before .before .before .before .if2 .left))
@@ -48,7 +51,7 @@ returns-3 c =
 returns-4 : tie.Need-returns-4
 unfolding cashConditions
 returns-4 c =
-    let start = c .before .before .before .before .before .before .before .before in
+    let start = c .before .before .before .before .before .before .before .before .before in
     let n = start .args .n in
     sym (between-behind (start .args .t) (start .args .at .seat) (sym (c .before .before .before .before .before .before .before .between-number .ensures) ∙ c .before .before .before .before .before .before .if1 .left) _
     ∙ first-next _ _ _ (ne-eqb _ _ (c .before .before .before .before .before .if2 .left))
@@ -58,6 +61,7 @@ pub cash-number-spec : {M : Type 1} → statement M
 cash-number-spec =
     tie.close
     (tie.spec
+    broken-requires
     between-number-requires
     returns
     returns-2

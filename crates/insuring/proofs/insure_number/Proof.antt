@@ -16,13 +16,16 @@ use Rattle.in_round.proofs.Answer.{round-behind, round-seat}
 use Rattle.insuring.proofs.insure_number.Statement.{statement}
 use Rattle.insuring.proofs.insure_number.Tie as tie
 
+broken-requires : tie.Need-broken-requires
+broken-requires c κs = search needs
+
 round-number-requires : tie.Need-round-number-requires
 round-number-requires c κs = search needs
 
 returns : tie.Need-returns
 unfolding insureConditions
 returns c =
-    let start = c .before .before in
+    let start = c .before .before .before in
     sym (first-before (roundConditions (start .args .t) (start .args .at .seat)) _ _ (sym (c .before .round-number .ensures)) (c .if1 .taken))
 
 cast-seat-of : tie.Need-cast-seat-of
@@ -31,7 +34,7 @@ cast-seat-of c = search needs
 seat-of-requires : tie.Need-seat-of-requires
 seat-of-requires c κs =
     let round = c .before .before in
-    let start = round .before .before in
+    let start = round .before .before .before in
     round-seat (start .args .t) (start .args .at .seat) (sym (round .before .round-number .ensures) ∙ round .if1 .left)
 
 returns-2 : tie.Need-returns-2
@@ -39,7 +42,7 @@ unfolding insureConditions
 returns-2 c =
     let seated = c .before .before .before in
     let round = seated .before .before .before in
-    let start = round .before .before in
+    let start = round .before .before .before in
     sym (round-behind (start .args .t) (start .args .at .seat) (sym (round .before .round-number .ensures) ∙ round .if1 .left) _
     ∙ first-here _ _ _ (ap (λ (s : Seat). ltb 0 (insurance s)) (sym (seated .seat-of .ensures)) ∙ lt-ltb _ _ (c .if2 .taken)))
 
@@ -48,7 +51,7 @@ unfolding insureConditions
 returns-3 c =
     let seated = c .before .before .before .before .before in
     let round = seated .before .before .before in
-    let start = round .before .before in
+    let start = round .before .before .before in
     sym (round-behind (start .args .t) (start .args .at .seat) (sym (round .before .round-number .ensures) ∙ round .if1 .left) _
     ∙ first-next _ _ _ (ap (λ (s : Seat). ltb 0 (insurance s)) (sym (seated .seat-of .ensures)) ∙ le-ltb _ _ (c .before .before .if2 .left))
     ∙ first-here _ _ _ (ap (λ (s : Seat). not (isStaked s)) (sym (seated .seat-of .ensures)) ∙ c .if3 .taken))
@@ -61,7 +64,7 @@ unfolding insureConditions
 returns-4 c =
     let seated = c .before .before .before .before .before .before .before in
     let round = seated .before .before .before in
-    let start = round .before .before in
+    let start = round .before .before .before in
     sym (round-behind (start .args .t) (start .args .at .seat) (sym (round .before .round-number .ensures) ∙ round .if1 .left) _
     ∙ first-next _ _ _ (ap (λ (s : Seat). ltb 0 (insurance s)) (sym (seated .seat-of .ensures)) ∙ le-ltb _ _ (c .before .before .before .before .if2 .left))
     ∙ first-next _ _ _ (ap (λ (s : Seat). not (isStaked s)) (sym (seated .seat-of .ensures)) ∙ c .before .before .if3 .left)
@@ -78,7 +81,7 @@ unfolding insureConditions
 returns-5 c =
     let seated = c .before .before .before .before .before .before .before .before .before .before in
     let round = seated .before .before .before in
-    let start = round .before .before in
+    let start = round .before .before .before in
     sym (round-behind (start .args .t) (start .args .at .seat) (sym (round .before .round-number .ensures) ∙ round .if1 .left) _
     ∙ first-next _ _ _ (ap (λ (s : Seat). ltb 0 (insurance s)) (sym (seated .seat-of .ensures)) ∙ le-ltb _ _ (c .before .before .before .before .before .before .before .if2 .left))
     ∙ first-next _ _ _ (ap (λ (s : Seat). not (isStaked s)) (sym (seated .seat-of .ensures)) ∙ c .before .before .before .before .before .if3 .left)
@@ -90,7 +93,7 @@ unfolding insureConditions
 returns-6 c =
     let seated = c .before .before .before .before .before .before .before .before .before .before .before in
     let round = seated .before .before .before in
-    let start = round .before .before in
+    let start = round .before .before .before in
     sym (round-behind (start .args .t) (start .args .at .seat) (sym (round .before .round-number .ensures) ∙ round .if1 .left) _
     ∙ first-next _ _ _ (ap (λ (s : Seat). ltb 0 (insurance s)) (sym (seated .seat-of .ensures)) ∙ le-ltb _ _ (c .before .before .before .before .before .before .before .before .if2 .left))
     ∙ first-next _ _ _ (ap (λ (s : Seat). not (isStaked s)) (sym (seated .seat-of .ensures)) ∙ c .before .before .before .before .before .before .if3 .left)
@@ -106,7 +109,7 @@ unfolding insureConditions
 returns-7 c =
     let seated = c .before .before .before .before .before .before .before .before .before .before .before .before .before in
     let round = seated .before .before .before in
-    let start = round .before .before in
+    let start = round .before .before .before in
     sym (round-behind (start .args .t) (start .args .at .seat) (sym (round .before .round-number .ensures) ∙ round .if1 .left) _
     ∙ first-next _ _ _ (ap (λ (s : Seat). ltb 0 (insurance s)) (sym (seated .seat-of .ensures)) ∙ le-ltb _ _ (c .before .before .before .before .before .before .before .before .before .before .if2 .left))
     ∙ first-next _ _ _ (ap (λ (s : Seat). not (isStaked s)) (sym (seated .seat-of .ensures)) ∙ c .before .before .before .before .before .before .before .before .if3 .left)
@@ -120,7 +123,7 @@ unfolding insureConditions
 returns-8 c =
     let seated = c .before .before .before .before .before .before .before .before .before .before .before .before .before .before .before in
     let round = seated .before .before .before in
-    let start = round .before .before in
+    let start = round .before .before .before in
     sym (round-behind (start .args .t) (start .args .at .seat) (sym (round .before .round-number .ensures) ∙ round .if1 .left) _
     ∙ first-next _ _ _ (ap (λ (s : Seat). ltb 0 (insurance s)) (sym (seated .seat-of .ensures)) ∙ le-ltb _ _ (c .before .before .before .before .before .before .before .before .before .before .before .before .if2 .left))
     ∙ first-next _ _ _ (ap (λ (s : Seat). not (isStaked s)) (sym (seated .seat-of .ensures)) ∙ c .before .before .before .before .before .before .before .before .before .before .if3 .left)
@@ -135,7 +138,7 @@ unfolding insureConditions
 returns-9 c =
     let seated = c .before .before .before .before .before .before .before .before .before .before .before .before .before .before .before in
     let round = seated .before .before .before in
-    let start = round .before .before in
+    let start = round .before .before .before in
     sym (round-behind (start .args .t) (start .args .at .seat) (sym (round .before .round-number .ensures) ∙ round .if1 .left) _
     ∙ first-next _ _ _ (ap (λ (s : Seat). ltb 0 (insurance s)) (sym (seated .seat-of .ensures)) ∙ le-ltb _ _ (c .before .before .before .before .before .before .before .before .before .before .before .before .if2 .left))
     ∙ first-next _ _ _ (ap (λ (s : Seat). not (isStaked s)) (sym (seated .seat-of .ensures)) ∙ c .before .before .before .before .before .before .before .before .before .before .if3 .left)
@@ -149,6 +152,7 @@ pub insure-number-spec : {M : Type 1} → statement M
 insure-number-spec =
     tie.close
     (tie.spec
+    broken-requires
     round-number-requires
     returns
     cast-seat-of

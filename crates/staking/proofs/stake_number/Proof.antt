@@ -13,13 +13,16 @@ use Rattle.between.proofs.Answer.{between-behind, between-seat}
 use Rattle.staking.proofs.stake_number.Statement.{statement}
 use Rattle.staking.proofs.stake_number.Tie as tie
 
+broken-requires : tie.Need-broken-requires
+broken-requires c κs = search needs
+
 between-number-requires : tie.Need-between-number-requires
 between-number-requires c κs = search needs
 
 returns : tie.Need-returns
 unfolding stakeConditions
 returns c =
-    let start = c .before .before .before in
+    let start = c .before .before .before .before in
     sym (first-before (betweenConditions (start .args .t) (start .args .at .seat)) _ _ (sym (c .before .between-number .ensures)) (c .if1 .taken))
 
 cast-seat-of : tie.Need-cast-seat-of
@@ -27,20 +30,20 @@ cast-seat-of c = search needs
 
 seat-of-requires : tie.Need-seat-of-requires
 seat-of-requires c κs =
-    let start = c .before .before .before .before in
+    let start = c .before .before .before .before .before in
     between-seat (start .args .t) (start .args .at .seat) (sym (c .before .before .between-number .ensures) ∙ c .before .if1 .left)
 
 returns-2 : tie.Need-returns-2
 unfolding stakeConditions
 returns-2 c =
-    let start = c .before .before .before .before .before .before .before .before in
+    let start = c .before .before .before .before .before .before .before .before .before in
     sym (between-behind (start .args .t) (start .args .at .seat) (sym (c .before .before .before .before .before .before .between-number .ensures) ∙ c .before .before .before .before .before .if1 .left) _
     ∙ first-here _ _ _ (ap isStaked (sym (c .before .before .before .seat-of .ensures)) ∙ lt-ltb _ _ (c .if2 .taken)))
 
 returns-3 : tie.Need-returns-3
 unfolding stakeConditions
 returns-3 c =
-    let start = c .before .before .before .before .before .before .before .before .before in
+    let start = c .before .before .before .before .before .before .before .before .before .before in
     sym (between-behind (start .args .t) (start .args .at .seat) (sym (c .before .before .before .before .before .before .before .between-number .ensures) ∙ c .before .before .before .before .before .before .if1 .left) _
     ∙ first-next _ _ _ (ap isStaked (sym (c .before .before .before .before .seat-of .ensures)) ∙ le-ltb _ _ (c .before .if2 .left))
     ∙ first-here _ _ _ (eq-eqb _ _ (c .if3 .taken)))
@@ -51,7 +54,7 @@ stake-permitted-requires c κs = search needs
 returns-4 : tie.Need-returns-4
 unfolding stakeConditions
 returns-4 c =
-    let start = c .before .before .before .before .before .before .before .before .before .before .before in
+    let start = c .before .before .before .before .before .before .before .before .before .before .before .before in
     sym (between-behind (start .args .t) (start .args .at .seat) (sym (c .before .before .before .before .before .before .before .before .before .between-number .ensures) ∙ c .before .before .before .before .before .before .before .before .if1 .left) _
     ∙ first-next _ _ _ (ap isStaked (sym (c .before .before .before .before .before .before .seat-of .ensures)) ∙ le-ltb _ _ (c .before .before .before .if2 .left))
     ∙ first-next _ _ _ (ne-eqb _ _ (c .before .before .if3 .left))
@@ -60,7 +63,7 @@ returns-4 c =
 returns-5 : tie.Need-returns-5
 unfolding stakeConditions
 returns-5 c =
-    let start = c .before .before .before .before .before .before .before .before .before .before .before .before .before in
+    let start = c .before .before .before .before .before .before .before .before .before .before .before .before .before .before in
     let n = start .args .n in
     sym (between-behind (start .args .t) (start .args .at .seat) (sym (c .before .before .before .before .before .before .before .before .before .before .before .between-number .ensures) ∙ c .before .before .before .before .before .before .before .before .before .before .if1 .left) _
     ∙ first-next _ _ _ (ap isStaked (sym (c .before .before .before .before .before .before .before .before .seat-of .ensures)) ∙ le-ltb _ _ (c .before .before .before .before .before .if2 .left))
@@ -71,7 +74,7 @@ returns-5 c =
 returns-6 : tie.Need-returns-6
 unfolding stakeConditions
 returns-6 c =
-    let start = c .before .before .before .before .before .before .before .before .before .before .before .before .before in
+    let start = c .before .before .before .before .before .before .before .before .before .before .before .before .before .before in
     let n = start .args .n in
     sym (between-behind (start .args .t) (start .args .at .seat) (sym (c .before .before .before .before .before .before .before .before .before .before .before .between-number .ensures) ∙ c .before .before .before .before .before .before .before .before .before .before .if1 .left) _
     ∙ first-next _ _ _ (ap isStaked (sym (c .before .before .before .before .before .before .before .before .seat-of .ensures)) ∙ le-ltb _ _ (c .before .before .before .before .before .if2 .left))
@@ -83,6 +86,7 @@ pub stake-number-spec : {M : Type 1} → statement M
 stake-number-spec =
     tie.close
     (tie.spec
+    broken-requires
     between-number-requires
     returns
     cast-seat-of

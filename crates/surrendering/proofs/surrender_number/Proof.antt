@@ -11,13 +11,16 @@ use Rattle.surrendering.proofs.Asked.{asked}
 use Rattle.surrendering.proofs.surrender_number.Statement.{statement}
 use Rattle.surrendering.proofs.surrender_number.Tie as tie
 
+broken-requires : tie.Need-broken-requires
+broken-requires c κs = search needs
+
 round-number-requires : tie.Need-round-number-requires
 round-number-requires c κs = search needs
 
 returns : tie.Need-returns
 unfolding surrenderConditions
 returns c =
-    let start = c .before .before in
+    let start = c .before .before .before in
     sym (first-before (roundConditions (start .args .t) (start .args .at .seat)) _ _ (sym (c .before .round-number .ensures)) (c .if1 .taken))
 
 up-requires : tie.Need-up-requires
@@ -28,13 +31,13 @@ cast-seat-of c = search needs
 
 seat-of-requires : tie.Need-seat-of-requires
 seat-of-requires c κs =
-    let start = c .before .before .before .before .before in
+    let start = c .before .before .before .before .before .before in
     round-seat (start .args .t) (start .args .at .seat) (sym (c .before .before .before .before .round-number .ensures) ∙ c .before .before .before .if1 .left)
 
 returns-2 : tie.Need-returns-2
 returns-2 c =
     let read = c .before .before .before .before in
-    let start = read .before .before .before .before .before .before in
+    let start = read .before .before .before .before .before .before .before in
     let round = sym (read .before .before .before .before .before .round-number .ensures) ∙ read .before .before .before .before .if1 .left in
     asked (start .args .t) (start .args .at .seat) _ _ (read .before .before .up .ensures) (read .seat-of .ensures) round
     false _ _ _ (not-true _ (c .if2 .taken)) refl refl refl
@@ -45,7 +48,7 @@ any-drew-requires c κs = search needs
 returns-3 : tie.Need-returns-3
 returns-3 c =
     let read = c .before .before .before .before .before .before in
-    let start = read .before .before .before .before .before .before in
+    let start = read .before .before .before .before .before .before .before in
     let round = sym (read .before .before .before .before .before .round-number .ensures) ∙ read .before .before .before .before .if1 .left in
     asked (start .args .t) (start .args .at .seat) _ _ (read .before .before .up .ensures) (read .seat-of .ensures) round
     true true _ _ (not-false _ (c .before .before .if2 .left)) (sym (c .before .any-drew .ensures) ∙ c .if3 .taken) refl refl
@@ -56,7 +59,7 @@ seat-waits-requires c κs = search needs
 returns-4 : tie.Need-returns-4
 returns-4 c =
     let read = c .before .before .before .before .before .before .before .before in
-    let start = read .before .before .before .before .before .before in
+    let start = read .before .before .before .before .before .before .before in
     let round = sym (read .before .before .before .before .before .round-number .ensures) ∙ read .before .before .before .before .if1 .left in
     asked (start .args .t) (start .args .at .seat) _ _ (read .before .before .up .ensures) (read .seat-of .ensures) round
     true false false _ (not-false _ (c .before .before .before .before .if2 .left)) (sym (c .before .before .before .any-drew .ensures) ∙ c .before .before .if3 .left)
@@ -68,7 +71,7 @@ is-ace-requires c κs = search needs
 returns-5 : tie.Need-returns-5
 returns-5 c =
     let read = c .before .before .before .before .before .before .before .before .before .before in
-    let start = read .before .before .before .before .before .before in
+    let start = read .before .before .before .before .before .before .before in
     let round = sym (read .before .before .before .before .before .round-number .ensures) ∙ read .before .before .before .before .if1 .left in
     asked (start .args .t) (start .args .at .seat) _ _ (read .before .before .up .ensures) (read .seat-of .ensures) round
     true false true true (not-false _ (c .before .before .before .before .before .before .if2 .left)) (sym (c .before .before .before .before .before .any-drew .ensures) ∙ c .before .before .before .before .if3 .left) (sym (c .before .before .before .seat-waits .ensures) ∙ not-false _ (c .before .before .if4 .left))
@@ -77,7 +80,7 @@ returns-5 c =
 returns-6 : tie.Need-returns-6
 returns-6 c =
     let read = c .before .before .before .before .before .before .before .before .before .before in
-    let start = read .before .before .before .before .before .before in
+    let start = read .before .before .before .before .before .before .before in
     let round = sym (read .before .before .before .before .before .round-number .ensures) ∙ read .before .before .before .before .if1 .left in
     asked (start .args .t) (start .args .at .seat) _ _ (read .before .before .up .ensures) (read .seat-of .ensures) round
     true false true false (not-false _ (c .before .before .before .before .before .before .if2 .left)) (sym (c .before .before .before .before .before .any-drew .ensures) ∙ c .before .before .before .before .if3 .left) (sym (c .before .before .before .seat-waits .ensures) ∙ not-false _ (c .before .before .if4 .left))
@@ -87,6 +90,7 @@ pub surrender-number-spec : {M : Type 1} → statement M
 surrender-number-spec =
     tie.close
     (tie.spec
+    broken-requires
     round-number-requires
     returns
     up-requires
