@@ -27,14 +27,14 @@ pub enum Call {
 }
 
 // A pay line is for a hand or for an insurance.
-pub const HAND: u8 = 0;
+pub const HAND: u32 = 0;
 
-pub const INSURANCE: u8 = 1;
+pub const INSURANCE: u32 = 1;
 
-// One line of close: seat, place (0 where it is no hand), hand or insurance, net to the seat.
+// One line of close: seat, place (0 where it is no hand), hand or insurance, net to the seat. Sixteen bytes without a gap, so that empty lines are one fill of zeros.
 pub struct PayLine {
-    pub seat: u8,
-    pub place: u8,
-    pub kind: u8,
+    pub seat: u16,
+    pub place: u16,
+    pub kind: u32,
     pub net: i64,
 }

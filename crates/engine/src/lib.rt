@@ -11,23 +11,25 @@ use table::Table;
 pub fn step(t: Table, c: Call, order: &[u8]) -> Stepped
     ensures { λ r. ⌜ stepOf r ≡ stepBy t c (now (order .entry)) ⌝ }
 {
-    match c {
-        Call::Fill(n) => plain_step(filling::fill(t, n)),
-        Call::Credit(n) => plain_step(crediting::credit(t, n)),
-        Call::Buy(at, n) => plain_step(buying::buy(t, at, n)),
-        Call::Cash(at, n) => plain_step(cashing::cash(t, at, n)),
-        Call::Stake(at, n) => plain_step(staking::stake(t, at, n)),
-        Call::Deal => plain_step(deal::deal(t)),
-        Call::Insure(at, n) => plain_step(insuring::insure(t, at, n)),
-        Call::Stand(at) => plain_step(ending::stand(t, at)),
-        Call::Draw(at) => plain_step(drawing::draw(t, at)),
-        Call::Double(at) => plain_step(drawing::double(t, at)),
-        Call::Split(at) => plain_step(splitting::split(t, at)),
-        Call::Surrender(at) => plain_step(surrendering::surrender(t, at)),
-        Call::Even(at) => plain_step(ending::even(t, at)),
-        Call::Five(at) => plain_step(ending::five(t, at)),
-        Call::Close => close(t),
-        Call::Void => plain_step(voiding::void(t)),
-        Call::Load => plain_step(loading::load(t, order)),
-    }
+    // Close alone makes its answer itself. The empty answer of every other call is made at one place, so that the compiler copies the table less often.
+    let o = match c {
+        Call::Fill(n) => filling::fill(t, n),
+        Call::Credit(n) => crediting::credit(t, n),
+        Call::Buy(at, n) => buying::buy(t, at, n),
+        Call::Cash(at, n) => cashing::cash(t, at, n),
+        Call::Stake(at, n) => staking::stake(t, at, n),
+        Call::Deal => deal::deal(t),
+        Call::Insure(at, n) => insuring::insure(t, at, n),
+        Call::Stand(at) => ending::stand(t, at),
+        Call::Draw(at) => drawing::draw(t, at),
+        Call::Double(at) => drawing::double(t, at),
+        Call::Split(at) => splitting::split(t, at),
+        Call::Surrender(at) => surrendering::surrender(t, at),
+        Call::Even(at) => ending::even(t, at),
+        Call::Five(at) => ending::five(t, at),
+        Call::Close => return close(t),
+        Call::Void => voiding::void(t),
+        Call::Load => loading::load(t, order),
+    };
+    plain_step(o)
 }

@@ -47,8 +47,8 @@ fn hand_lines(
     for place in 0usize..n {
         let h = hands.places[place];
         let line = PayLine {
-            seat,
-            place: place as u8,
+            seat: seat as u16,
+            place: place as u16,
             kind: HAND,
             net: net_of(hand_pay(o, bank, stake, h)),
         };
@@ -67,7 +67,7 @@ fn insurance_lines(l: PayLines, bank: Score, seat: u8, insurance: u32) -> PayLin
         return l;
     }
     let line = PayLine {
-        seat,
+        seat: seat as u16,
         place: 0,
         kind: INSURANCE,
         net: net_of(insurance_pay(bank, insurance)),

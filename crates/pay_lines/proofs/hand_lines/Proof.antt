@@ -38,8 +38,8 @@ mul-h c = omega arith
 element-copy-out-h : tie.Need-element-copy-out-h Inv-loop μ-loop
 element-copy-out-h c = omega arith
 
-cast-t19 : tie.Need-cast-t19 Inv-loop μ-loop
-cast-t19 c = record { fits = omega arith }
+cast-t20 : tie.Need-cast-t20 Inv-loop μ-loop
+cast-t20 c = record { fits = omega arith }
 
 hand-pay-requires : tie.Need-hand-pay-requires Inv-loop μ-loop
 hand-pay-requires c κs = search needs
@@ -94,7 +94,7 @@ hand-lines-spec =
     loop-holds
     mul-h
     element-copy-out-h
-    cast-t19
+    cast-t20
     hand-pay-requires
     net-of-requires
     with-line-requires
