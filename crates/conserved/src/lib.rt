@@ -8,7 +8,6 @@ ghost use Rattle.table.specs.Broken.{soundShoe, soundFaces};
 ghost use Rattle.conserved.specs.Left.{Within, Left, OfValid};
 use counters::count;
 use counters::each_face;
-use counters::no_counts;
 use table::Shoe;
 use table::Table;
 use tallies::count_out;
@@ -21,7 +20,7 @@ fn left_counts(decks: u8, sh: Shoe) -> [u16; 256]
     let order = sh.order;
     let drawn = sh.drawn;
     let all = 52 * (decks as usize);
-    let mut of = no_counts();
+    let mut of = [0u16; 256];
     count(&mut of, &order[drawn..all]);
     of
 }

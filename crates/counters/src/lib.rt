@@ -3,14 +3,7 @@ ghost use mathlib.Core.Path.{_≡_};
 ghost use lib.Dec.{eqb};
 ghost use lib.ListN.{length, getD};
 ghost use Rattle.lists.specs.Below.{allBelow};
-ghost use Rattle.counters.specs.Tally.{noCounts, tally, Room};
-
-// Counters that begin with zero.
-pub fn no_counts() -> [u16; 256]
-    ensures { λ r. ⌜ r ≡ noCounts ⌝ }
-{
-    [0u16; 256]
-}
+ghost use Rattle.counters.specs.Tally.{tally, Room};
 
 // Each card adds one to the counter of its byte.
 pub fn count(of: &mut [u16; 256], cards: &[u8])

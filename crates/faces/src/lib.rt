@@ -3,7 +3,6 @@ ghost use mathlib.Core.Path.{_≡_};
 ghost use Rattle.table.specs.Shoe.{validOrder};
 use counters::count;
 use counters::each_face;
-use counters::no_counts;
 
 // Whether the order has 52 × decks cards, each face as often as there are decks: then there is no room for any other byte.
 pub fn valid_order(decks: u8, order: &[u8]) -> bool
@@ -12,7 +11,7 @@ pub fn valid_order(decks: u8, order: &[u8]) -> bool
     if order.len() != 52 * (decks as usize) {
         return false;
     }
-    let mut of = no_counts();
+    let mut of = [0u16; 256];
     count(&mut of, order);
     each_face(&of, decks as u16)
 }

@@ -1,11 +1,10 @@
 -- An order of another length is not valid; of an order of that length the counters of the faces decide.
-use mathlib.Core.Path.{_≡_, refl, ap, _∙_}
-use mathlib.Core.List.{List}
-use Prim.Native.Nat.{ℕ, _*_}
+use mathlib.Core.Path.{_≡_, refl, _∙_}
+use Prim.Native.Nat.{_*_}
 use native.Mathlib.Omega.{arith}
 use borrow.Author.Tests.{ne-eqb}
 use lib.ListN.{length}
-use Rattle.counters.specs.Tally.{tally}
+use Rattle.counters.specs.Tally.{noCounts}
 use Rattle.counters.proofs.Tallies.{room-zeros}
 use Rattle.table.specs.Shoe.{validOrder}
 use Rattle.faces.proofs.Orders.{faces-decide}
@@ -22,29 +21,24 @@ returns c =
     let start = c .before .before in
     rw (ne-eqb (length (start .args .order .now)) (52 * start .args .decks) (λ e. omega arith))
 
-no-counts-requires : tie.Need-no-counts-requires
-no-counts-requires c κs = search needs
-
 count-requires : tie.Need-count-requires
-count-requires c κs =
-    let start = c .before .before .before .before in
-    let room = room-zeros (length (start .args .order .now)) (omega arith) in
-    rw (c .before .no-counts .ensures) room
+unfolding noCounts
+count-requires c κs = room-zeros (length (c .before .before .before .args .order .now)) (omega arith)
 
 each-face-requires : tie.Need-each-face-requires
 each-face-requires c κs = search needs
 
 returns-2 : tie.Need-returns-2
+unfolding noCounts
 returns-2 c =
-    let start = c .before .before .before .before .before .before .before in
-    let filled = c .before .before in
+    let start = c .before .before .before .before .before .before in
     let right : length (start .args .order .now) ≡ 52 * start .args .decks = omega arith in
     c .each-face .ensures
     ∙ faces-decide (start .args .decks) (start .args .order .now) (start .args .order .now) _ right
-    (filled .count .ensures ∙ ap (λ (of : List ℕ). tally of (start .args .order .now)) (filled .before .before .no-counts .ensures))
+    (c .before .before .count .ensures)
     (λ b. refl)
 
 pub valid-order-spec : {M : Type 1} → statement M
 valid-order-spec =
     tie.close
-    (tie.spec mul-if1 returns no-counts-requires count-requires each-face-requires returns-2)
+    (tie.spec mul-if1 returns count-requires each-face-requires returns-2)
