@@ -23,7 +23,7 @@ struct Survey {
     sums: Sums,
 }
 
-// The pass over the nine seats.
+// The pass over the nine seats. They are taken out of the table first, so that the loop keeps a copy of the seats alone.
 fn surveyed(t: Table) -> Survey
     ensures { λ r. ⌜ OfSeats t r ⌝ }
 {

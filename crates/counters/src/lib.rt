@@ -17,7 +17,7 @@ pub fn count(of: &mut [u16; 256], cards: &[u8])
     }
 }
 
-// Whether each of the 52 faces was counted so many times.
+// Whether each of the 52 faces was counted so many times. There is no branch, so that the compiler tests several at a time.
 pub fn each_face(of: &[u16; 256], times: u16) -> bool
     ensures { λ r. ⌜ r ≡ allBelow (λ face. eqb (getD (now (of .entry)) face 0) times) 52 ⌝ }
 {
