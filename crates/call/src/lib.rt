@@ -31,7 +31,8 @@ pub const HAND: u32 = 0;
 
 pub const INSURANCE: u32 = 1;
 
-// One line of close: seat, place (0 where it is no hand), hand or insurance, net to the seat. Sixteen bytes without a gap, so that empty lines are one fill of zeros.
+// One line of close: seat, place (0 where it is no hand), hand or insurance, net to the seat. Sixteen bytes without a gap, so that empty lines are
+// one fill of zeros.
 pub struct PayLine {
     pub seat: u16,
     pub place: u16,

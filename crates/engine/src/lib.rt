@@ -11,7 +11,8 @@ use table::Table;
 pub fn step(t: Table, c: Call, order: &[u8]) -> Stepped
     ensures { λ r. ⌜ stepOf r ≡ stepBy t c (now (order .entry)) ⌝ }
 {
-    // Close alone makes its answer itself. The empty answer of every other call is made at one place, so that the compiler copies the table less often.
+    // Close alone makes its answer itself. The empty answer of every other call is made at one place, so that the compiler copies the table less
+    // often.
     let o = match c {
         Call::Fill(n) => filling::fill(t, n),
         Call::Credit(n) => crediting::credit(t, n),
