@@ -1,5 +1,5 @@
-// What insurance and the decisions ask first: 1 broken, 5 no round is dealt, 8 no such seat. Public for these calls alone. `damaged`: whether
-// the table is broken, which the call works out itself, so that no copy of the table is made for this test; so it asks that this is so.
+// What insurance and the decisions ask first: 1 broken, 5 no round is dealt, 8 no such seat. Public for these calls alone: it asks that `damaged`
+// says whether the table is broken. The call works that out itself, so that no copy of the table is made for the test.
 ghost use mathlib.Core.Path.{_≡_};
 ghost use Rattle.call.specs.Refusal.{first};
 ghost use Rattle.decisions.specs.Round.{roundConditions};

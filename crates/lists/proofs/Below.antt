@@ -1,6 +1,6 @@
 -- Laws of tests and sums over the numbers below a number.
 use mathlib.Core.Path.{_≡_, refl, ap, ap₂, _∙_, sym}
-use mathlib.Core.Bool.{Bool, true, false, _&&_, and-eq-true-iff, and-true}
+use mathlib.Core.Bool.{Bool, true, _&&_, and-eq-true-iff, and-true}
 use mathlib.Core.List.{List, [], _∷_}
 use Prim.Native.Nat.{ℕ, zero, suc, _+_, _≤_, _<_}
 use native.Mathlib.Nat.{not-suc-le-zero, add-zero, add-suc}
