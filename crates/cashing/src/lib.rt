@@ -15,9 +15,9 @@ use table::Table;
 fn cash_number(t: Table, at: At, n: u64) -> u8
     ensures { λ r. ⌜ r ≡ first (cashConditions t (at .seat) n) ⌝ }
 {
-    let number = between_number(broken(t), t, at);
-    if number != 0 {
-        return number;
+    let early = between_number(broken(t), t, at);
+    if early != 0 {
+        return early;
     }
     if n == 0 {
         return 14;

@@ -32,9 +32,9 @@ fn stake_number(t: Table, at: At, n: u64) -> u8
     ensures { λ r. ⌜ r ≡ first (stakeConditions t (at .seat) n) ⌝ }
 {
     let o = t.options;
-    let number = between_number(broken(t), t, at);
-    if number != 0 {
-        return number;
+    let early = between_number(broken(t), t, at);
+    if early != 0 {
+        return early;
     }
     let s = seat_of(t, at.seat as usize);
     let money = s.money;
