@@ -1,7 +1,7 @@
 // A number that changes with every answer, every sum of money and every card.
-use answers::Answer;
-use hands::hand::Hand;
-use hands::hand::held;
+use answer::Answer;
+use cards::hand::Hand;
+use cards::hand::held;
 use table::Table;
 
 const PRIME: u64 = 4294967291;

@@ -3,10 +3,10 @@ mod checksum;
 mod house;
 mod plan;
 
-use answers::Stepped;
+use answer::Stepped;
+use cashier::opening::opening;
 use engine::step;
 use libc::STDOUT_FILENO;
-use opening::opening;
 use plan::Plan;
 use script::number;
 use table::Table;

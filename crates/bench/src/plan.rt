@@ -2,8 +2,8 @@
 // too short is loaded anew, and a round that cannot be closed is void, as is every tenth.
 use call::At;
 use call::Call;
+use state::turns::turn_seat;
 use table::Table;
-use turns::turn_seat;
 
 pub const FILL: u8 = 0;
 

@@ -20,7 +20,7 @@ use Rattle.history.specs.Entry.{Entry}
 use Rattle.history.specs.Rounds.{isDealtRound}
 use Rattle.history.specs.Money.{cameIn, wentOut}
 use Rattle.agreement.specs.Agrees.{Good}
-use Rattle.cashier.proofs.Loads.{no-hand}
+use Rattle.cashier_spec.proofs.Loads.{no-hand}
 use Rattle.books.specs.Books.{Claim}
 
 empty-list : (xs : List ℕ) → length xs ≡ 0 → xs ≡ []

@@ -8,7 +8,7 @@ use Rattle.call.specs.declared.Call.{Call}
 use Rattle.table.specs.declared.Table.{Table}
 use Rattle.table.specs.Broken.{sound}
 use Rattle.table.proofs.Facts.{sound-facts, facts-sound}
-use Rattle.answers.specs.Stepped.{stepped}
+use Rattle.answer.specs.Stepped.{stepped}
 use Rattle.engine.specs.Step.{number, step}
 use Rattle.books.specs.Laws.{Keeps}
 use Rattle.books.proofs.Steps.{step-kept}

@@ -5,7 +5,7 @@ use mathlib.Core.List.{List, [], _∷_, reverse, reverseAux, reverseAux-reverseA
 use lib.Dec.{eqb}
 use Rattle.table.specs.declared.Table.{Table}
 use Rattle.history.specs.Entry.{Entry}
-use Rattle.answers.specs.Stepped.{stepped}
+use Rattle.answer.specs.Stepped.{stepped}
 use Rattle.engine.specs.Step.{number, next, step}
 use Rattle.engine.specs.Run.{run, accepted}
 use Rattle.books.specs.Laws.{Replayed}

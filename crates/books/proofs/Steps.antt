@@ -10,31 +10,31 @@ use Rattle.table.specs.Shape.{Shaped}
 use Rattle.table.specs.Sound.{Sound}
 use Rattle.history.specs.Entry.{Entry, entry}
 use Rattle.agreement.specs.Agrees.{Good}
-use Rattle.cashier.specs.Fill.{fillEffect}
-use Rattle.cashier.specs.Credit.{creditEffect}
-use Rattle.cashier.specs.Buy.{buyEffect}
-use Rattle.cashier.specs.Cash.{cashEffect}
-use Rattle.cashier.specs.Load.{loadEffect}
-use Rattle.cashier.specs.Stake.{stakeEffect}
-use Rattle.cashier.proofs.Tray.{fill-kept, fill-good, credit-kept, credit-good}
-use Rattle.cashier.proofs.Loads.{load-kept, load-good}
-use Rattle.cashier.proofs.Purses.{buy-kept, buy-good, cash-kept, cash-good, stake-kept, stake-good}
-use Rattle.dealing.specs.Deal.{dealEffect}
-use Rattle.dealing.specs.Void.{voidEffect}
-use Rattle.dealing.proofs.Deal.{deal-kept, deal-good}
-use Rattle.dealing.proofs.Void.{void-kept, void-good}
-use Rattle.decisions.specs.Insure.{insureEffect}
-use Rattle.decisions.specs.Surrender.{surrenderEffect}
-use Rattle.decisions.specs.Turn.{endEffect}
-use Rattle.decisions.specs.Card.{cardEffect}
-use Rattle.decisions.specs.Split.{splitEffect}
-use Rattle.decisions.proofs.OneCall.{decision-kept, decision-good}
-use Rattle.decisions.proofs.Insuring.{insure-decides}
-use Rattle.decisions.proofs.Ending.{stand-decides, even-decides, five-decides, surrender-decides}
-use Rattle.decisions.proofs.Drawing.{draw-decides, double-decides}
-use Rattle.decisions.proofs.Splitting.{split-decides}
-use Rattle.settling.specs.Close.{closeEffect}
-use Rattle.settling.proofs.Closes.{close-kept, close-good}
+use Rattle.cashier_spec.specs.Fill.{fillEffect}
+use Rattle.cashier_spec.specs.Credit.{creditEffect}
+use Rattle.cashier_spec.specs.Buy.{buyEffect}
+use Rattle.cashier_spec.specs.Cash.{cashEffect}
+use Rattle.cashier_spec.specs.Load.{loadEffect}
+use Rattle.cashier_spec.specs.Stake.{stakeEffect}
+use Rattle.cashier_spec.proofs.Tray.{fill-kept, fill-good, credit-kept, credit-good}
+use Rattle.cashier_spec.proofs.Loads.{load-kept, load-good}
+use Rattle.cashier_spec.proofs.Purses.{buy-kept, buy-good, cash-kept, cash-good, stake-kept, stake-good}
+use Rattle.deal_spec.specs.Deal.{dealEffect}
+use Rattle.deal_spec.specs.Void.{voidEffect}
+use Rattle.deal_spec.proofs.Deal.{deal-kept, deal-good}
+use Rattle.deal_spec.proofs.Void.{void-kept, void-good}
+use Rattle.decision_spec.specs.Insure.{insureEffect}
+use Rattle.decision_spec.specs.Surrender.{surrenderEffect}
+use Rattle.decision_spec.specs.Turn.{endEffect}
+use Rattle.decision_spec.specs.Card.{cardEffect}
+use Rattle.decision_spec.specs.Split.{splitEffect}
+use Rattle.decision_spec.proofs.OneCall.{decision-kept, decision-good}
+use Rattle.decision_spec.proofs.Insuring.{insure-decides}
+use Rattle.decision_spec.proofs.Ending.{stand-decides, even-decides, five-decides, surrender-decides}
+use Rattle.decision_spec.proofs.Drawing.{draw-decides, double-decides}
+use Rattle.decision_spec.proofs.Splitting.{split-decides}
+use Rattle.close_spec.specs.Close.{closeEffect}
+use Rattle.close_spec.proofs.Closes.{close-kept, close-good}
 use Rattle.engine.specs.Step.{conditions, effect}
 
 pub step-good : (opening : List ℕ) (es : List Entry) (t : Table) (c : Call) (order : List ℕ) → Good opening es t → first (conditions t c order) ≡ 0

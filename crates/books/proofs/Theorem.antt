@@ -9,9 +9,9 @@ use Rattle.options.specs.declared.Options.{Options}
 use Rattle.table.specs.declared.Table.{Table}
 use Rattle.history.specs.Entry.{Entry}
 use Rattle.agreement.specs.Agrees.{Good}
-use Rattle.cashier.specs.Opening.{openNumber, opened}
-use Rattle.cashier.proofs.Opens.{open-good, accepted-table}
-use Rattle.answers.specs.Stepped.{stepped}
+use Rattle.cashier_spec.specs.Opening.{openNumber, opened}
+use Rattle.cashier_spec.proofs.Opens.{open-good, accepted-table}
+use Rattle.answer.specs.Stepped.{stepped}
 use Rattle.engine.specs.Step.{number, effect, next, step}
 use Rattle.engine.specs.Run.{run, accepted}
 use Rattle.books.specs.Books.{Claim, Books}

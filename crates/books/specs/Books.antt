@@ -18,7 +18,7 @@ use Rattle.history.specs.Rounds.{isDealtRound}
 use Rattle.history.specs.Cards.{cardsOfHistory, drawnCards}
 use Rattle.history.specs.Hands.{handsIn}
 use Rattle.history.specs.Money.{cameIn, wentOut, laidIn, purseOf}
-use Rattle.cashier.specs.Opening.{opened}
+use Rattle.cashier_spec.specs.Opening.{opened}
 use Rattle.engine.specs.Run.{run, accepted}
 
 -- What is claimed of a table t and the accepted calls es, newest first.

@@ -4,7 +4,7 @@ use mathlib.Core.Bool.{true}
 use Rattle.lists.specs.Below.{allBelow}
 use Rattle.table.specs.declared.Table.{Table}
 use Rattle.table.specs.Broken.{seatSound}
-use Rattle.sums.specs.Sums.{tableSums}
+use Rattle.money.specs.Sums.{tableSums}
 use Rattle.broken.specs.declared.Survey.{Survey}
 
 pub record OfSeats (t : Table) (v : Survey) : Type 0 where

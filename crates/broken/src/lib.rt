@@ -1,20 +1,23 @@
 // Number 1: whether a table is broken (docs/BROKEN.md). Any table value is taken: counts past their arrays, sums that would not fit, bytes
 // that are no card, codes out of range.
+pub mod playable;
+pub mod seat;
+
 ghost use mathlib.Core.Path.{_≡_};
 ghost use mathlib.Core.Bool.{_&&_};
 ghost use Rattle.lists.specs.Below.{allBelow};
 ghost use Rattle.table.specs.Broken.{seatSound, soundBank, soundMoney, sound as isSound, broken as isBroken};
-ghost use Rattle.sums.specs.Sums.{tableSums};
+ghost use Rattle.money.specs.Sums.{tableSums};
 ghost use Rattle.broken.specs.OfSeats.{OfSeats};
-use conserved::cards_conserved;
-use limits::over_limit;
+use crate::seat::sound_seat;
+use card_count::conserved::cards_conserved;
+use money::limits::over_limit;
+use money::sums::Sums;
+use money::sums::plus;
+use money::sums::seat_sums;
 use options::in_range;
-use round::is_dealt;
-use round::up;
-use soundness::sound_seat;
-use sums::Sums;
-use sums::plus;
-use sums::seat_sums;
+use state::round::is_dealt;
+use state::round::up;
 use table::Table;
 
 // What one pass over the seats gives: whether each is sound, and, where each is, their sums.
@@ -29,7 +32,7 @@ fn surveyed(t: Table) -> Survey
 {
     let o = t.options;
     let dealt = is_dealt(t);
-    let ace = cards::is_ace(up(t));
+    let ace = cards::card::is_ace(up(t));
     let mut sums = Sums {
         laid: 0,
         prizes: 0,

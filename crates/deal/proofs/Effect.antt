@@ -4,15 +4,15 @@ use mathlib.Core.Bool.{true, false}
 use Prim.Native.Nat.{ℕ, _+_}
 use native.Mathlib.Omega.{arith}
 use lib.ListN.{getD, take}
-use Rattle.hands.specs.declared.hand.Hand.{Hand}
-use Rattle.hands.specs.Hand.{emptyHand, withCard}
+use Rattle.cards.specs.declared.hand.Hand.{Hand}
+use Rattle.cards.specs.Hand.{emptyHand, withCard}
 use Rattle.table.specs.declared.Shoe.{Shoe}
 use Rattle.table.specs.declared.Table.{Table}
 use Rattle.table.specs.Shoe.{drawn, discard}
 use Rattle.table.specs.Table.{makeTable, tableShoe}
-use Rattle.dealing.specs.Pass.{firstCard, secondCard, pass}
-use Rattle.dealing.specs.Deal.{stakedSeats, burnt, dealTakes, dealtSeats, upCard, dealEffect}
-use Rattle.passes.specs.Passed.{passed}
+use Rattle.deal_spec.specs.Pass.{firstCard, secondCard, pass}
+use Rattle.deal_spec.specs.Deal.{stakedSeats, burnt, dealTakes, dealtSeats, upCard, dealEffect}
+use Rattle.deal.specs.Passed.{passed}
 
 -- the table after both passes, with that hand and that shoe
 abbrev dealtTo : Table → Hand → Shoe → Table

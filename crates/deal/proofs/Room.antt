@@ -11,7 +11,7 @@ use Rattle.call.proofs.Refusals.{accepted-at}
 use Rattle.table.specs.declared.Table.{Table}
 use Rattle.table.specs.Table.{cardsLeft}
 use Rattle.table.proofs.Facts.{unbroken, decks-416, room-discards}
-use Rattle.dealing.specs.Deal.{burnt, dealTakes, dealConditions}
+use Rattle.deal_spec.specs.Deal.{burnt, dealTakes, dealConditions}
 
 pub record Room (t : Table) : Type 0 where
   pub enough : t .shoe .drawn + dealTakes t ≤ 52 * t .options .decks

@@ -1,23 +1,27 @@
 // deal: burns, then one card to each staked seat, one to the bank, and a second to each (document 01, "The seventeen calls").
 // The number function asks the list's conditions in its order.
+pub mod burns;
+pub mod passes;
+pub mod void;
+
 ghost use mathlib.Core.Path.{_≡_};
 ghost use Rattle.call.specs.Refusal.{first};
-ghost use Rattle.outcome.specs.Outcome.{outcome};
-ghost use Rattle.dealing.specs.Deal.{dealConditions, dealEffect};
+ghost use Rattle.answer.specs.Outcome.{outcome};
+ghost use Rattle.deal_spec.specs.Deal.{dealConditions, dealEffect};
+use crate::burns::burn;
+use crate::burns::burn_at_deal;
+use crate::burns::deal_takes;
+use crate::passes::pass;
+use crate::passes::staked_seats;
+use answer::outcome::Outcome;
 use broken::broken;
-use burns::burn;
-use burns::burn_at_deal;
-use burns::deal_takes;
-use hands::hand::empty_hand;
-use hands::hand::with_card;
-use outcome::Outcome;
-use passes::pass;
-use passes::staked_seats;
-use round::cards_left;
-use round::is_dealt;
+use cards::hand::empty_hand;
+use cards::hand::with_card;
+use money::sums::table_sums;
 use shoe::card_ahead;
 use shoe::draw_cards;
-use sums::table_sums;
+use state::round::cards_left;
+use state::round::is_dealt;
 use table::Table;
 
 fn deal_number(t: Table) -> u8

@@ -1,12 +1,7 @@
--- Insurance and the seven decisions.
-pub mod Round
-pub mod Insure
-pub mod Surrender
-pub mod Turn
-pub mod Stand
-pub mod Card
-pub mod Draw
-pub mod Double
-pub mod Split
-pub mod Even
-pub mod Five
+-- What a seat has done in the round.
+pub mod Acted
+-- The hand ended in its seat.
+pub mod Ended
+-- What even and five share.
+pub mod Leave
+pub mod Aids

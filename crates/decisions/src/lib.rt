@@ -1,1 +1,8 @@
-// The definitions of these calls; their code comes with the table in code.
+// decisions: in_round, in_turn, progress, insuring, surrendering, ended, ending.
+pub mod end;
+pub mod ended;
+pub mod in_round;
+pub mod in_turn;
+pub mod insure;
+pub mod progress;
+pub mod surrender;

@@ -1,2 +1,6 @@
 -- What a display reads of the whole table.
-pub mod Shown
+pub mod DisplayShown
+-- What a display reads of a seat.
+pub mod SeatDisplayShown
+-- What a display reads of a hand.
+pub mod HandDisplayShown

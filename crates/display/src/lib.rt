@@ -1,16 +1,19 @@
 // What a display reads of the whole table, and whose turn it is. A broken table shows nothing.
+pub mod hand;
+pub mod seat;
+
 ghost use mathlib.Core.Path.{_≡_};
-ghost use Rattle.display.specs.Shown.{noTableShown, tableShown, nobodysTurn, turnShown};
-use blank::no_options;
+ghost use Rattle.display.specs.DisplayShown.{noTableShown, tableShown, nobodysTurn, turnShown};
 use broken::broken;
-use hands::hand::Hand;
-use hands::hand::empty_hand;
+use cards::hand::Hand;
+use cards::hand::empty_hand;
+use money::sums::table_sums;
 use options::Options;
-use round::cards_left;
-use sums::table_sums;
+use state::blank::no_options;
+use state::round::cards_left;
+use state::turn_places::turn_place;
+use state::turns::turn_seat;
 use table::Table;
-use turn_places::turn_place;
-use turns::turn_seat;
 
 // The options; the tray, all layout and all purses; how many cards are left, how many are discards, and the bank's cards.
 pub struct TableShown {

@@ -10,27 +10,27 @@ use Rattle.call.specs.Refusal.{first}
 use Rattle.options.specs.Ranges.{ranges, inRange}
 use Rattle.table.specs.declared.Table.{Table}
 use Rattle.table.specs.Broken.{sound, broken}
-use Rattle.cashier.specs.Opening.{emptyTable}
-use Rattle.cashier.specs.Fill.{fillConditions}
-use Rattle.cashier.specs.Credit.{creditConditions}
-use Rattle.cashier.specs.Between.{betweenConditions}
-use Rattle.cashier.specs.Buy.{buyConditions}
-use Rattle.cashier.specs.Cash.{cashConditions}
-use Rattle.cashier.specs.Load.{loadConditions}
-use Rattle.cashier.specs.Stake.{stakeConditions}
-use Rattle.dealing.specs.Deal.{dealConditions}
-use Rattle.dealing.specs.Void.{voidConditions}
-use Rattle.decisions.specs.Round.{roundConditions}
-use Rattle.decisions.specs.Insure.{insureConditions}
-use Rattle.decisions.specs.Surrender.{surrenderConditions}
-use Rattle.decisions.specs.Turn.{turnConditions}
-use Rattle.decisions.specs.Draw.{drawConditions}
-use Rattle.decisions.specs.Double.{doubleConditions}
-use Rattle.decisions.specs.Split.{splitConditions}
-use Rattle.decisions.specs.Even.{evenConditions}
-use Rattle.decisions.specs.Five.{fiveConditions}
-use Rattle.settling.specs.Close.{closeConditions}
-use Rattle.answers.specs.Stepped.{stepped}
+use Rattle.cashier_spec.specs.Opening.{emptyTable}
+use Rattle.cashier_spec.specs.Fill.{fillConditions}
+use Rattle.cashier_spec.specs.Credit.{creditConditions}
+use Rattle.cashier_spec.specs.Between.{betweenConditions}
+use Rattle.cashier_spec.specs.Buy.{buyConditions}
+use Rattle.cashier_spec.specs.Cash.{cashConditions}
+use Rattle.cashier_spec.specs.Load.{loadConditions}
+use Rattle.cashier_spec.specs.Stake.{stakeConditions}
+use Rattle.deal_spec.specs.Deal.{dealConditions}
+use Rattle.deal_spec.specs.Void.{voidConditions}
+use Rattle.decision_spec.specs.Round.{roundConditions}
+use Rattle.decision_spec.specs.Insure.{insureConditions}
+use Rattle.decision_spec.specs.Surrender.{surrenderConditions}
+use Rattle.decision_spec.specs.Turn.{turnConditions}
+use Rattle.decision_spec.specs.Draw.{drawConditions}
+use Rattle.decision_spec.specs.Double.{doubleConditions}
+use Rattle.decision_spec.specs.Split.{splitConditions}
+use Rattle.decision_spec.specs.Even.{evenConditions}
+use Rattle.decision_spec.specs.Five.{fiveConditions}
+use Rattle.close_spec.specs.Close.{closeConditions}
+use Rattle.answer.specs.Stepped.{stepped}
 use Rattle.engine.specs.Step.{number, step}
 
 pub broken-one : (t : Table) → broken t ≡ true → (c : Call) (order : List ℕ) → number t c order ≡ 1

@@ -13,48 +13,48 @@ use Rattle.call.specs.declared.Call.the-variants.{Fill, Buy, Stake, Deal, Insur
 use Rattle.call.specs.declared.At.{At}
 use Rattle.call.specs.Refusal.{first}
 use Rattle.cards.specs.Points.{pointsOf}
-use Rattle.hands.specs.Hand.{withCard}
-use Rattle.totals.specs.Total.{total}
-use Rattle.totals.specs.Length.{couldBePlayed}
-use Rattle.patterns.specs.Natural.{isNatural}
-use Rattle.patterns.specs.Pair.{isPair}
-use Rattle.prizes.specs.PrizeHand.{allSevens, suitedSixSevenEight, isPrizeHand}
+use Rattle.cards.specs.Hand.{withCard}
+use Rattle.cards.specs.Total.{total}
+use Rattle.cards.specs.Length.{couldBePlayed}
+use Rattle.cards.specs.Natural.{isNatural}
+use Rattle.cards.specs.Pair.{isPair}
+use Rattle.cards.specs.PrizeHand.{allSevens, suitedSixSevenEight, isPrizeHand}
 use Rattle.options.specs.declared.Options.{Options}
 use Rattle.options.specs.Ranges.{ranges, inRange}
-use Rattle.standing.specs.SeatHand.{natural, hasTwoCards}
-use Rattle.standing.specs.Open.{evenOpen, fiveOpen}
-use Rattle.waiting.specs.Waits.{isTwoAces, acesWait, cardsWait, waits}
-use Rattle.bank.specs.Bank.{mustDraw}
-use Rattle.permission.specs.Permits.{permitsStand, takesCards, permitsDraw, permitsDouble, permitsSplit}
-use Rattle.leaving.specs.Leaving.{permitsEven, permitsFive, permitsSurrender}
-use Rattle.drew.specs.Drew.{seatDrew}
-use Rattle.stakes.specs.Wager.{wager}
+use Rattle.rules.specs.SeatHand.{natural, hasTwoCards}
+use Rattle.rules.specs.Open.{evenOpen, fiveOpen}
+use Rattle.rules.specs.Waits.{isTwoAces, acesWait, cardsWait, waits}
+use Rattle.payment.specs.Bank.{mustDraw}
+use Rattle.rules.specs.Permits.{permitsStand, takesCards, permitsDraw, permitsDouble, permitsSplit}
+use Rattle.rules.specs.Leaving.{permitsEven, permitsFive, permitsSurrender}
+use Rattle.rules.specs.Drew.{seatDrew}
+use Rattle.payment.specs.Wager.{wager}
 use Rattle.payment.specs.HandPay.{handBack, againstBank, againstNatural, byTotals}
 use Rattle.payment.specs.Insurance.{insurancePay}
-use Rattle.stakes.specs.Prize.{prize}
+use Rattle.payment.specs.Prize.{prize}
 use Rattle.table.specs.declared.Table.{Table}
 use Rattle.table.specs.Seat.{laid, prizes}
 use Rattle.table.specs.Shoe.{validOrder}
 use Rattle.table.specs.Table.{cardsLeft}
 use Rattle.table.specs.Money.{layout, purses}
 use Rattle.table.specs.Broken.{stakePermitted, insurancePermitted, soundHand, soundNumber, soundStake, soundInsurance, soundHands, soundPrizes, soundSeat, soundShoe, soundFaces, soundBank, soundMoney, sound}
-use Rattle.cashier.specs.Opening.{openConditions, openNumber, opened}
-use Rattle.cashier.specs.Fill.{fillConditions, fillEffect}
-use Rattle.cashier.specs.Between.{betweenConditions}
-use Rattle.cashier.specs.Buy.{buyConditions, buyEffect}
-use Rattle.cashier.specs.Stake.{stakeConditions, stakeEffect}
-use Rattle.dealing.specs.Burn.{burnAtDeal}
-use Rattle.dealing.specs.Pass.{pass}
-use Rattle.dealing.specs.Deal.{dealTakes, dealConditions, dealtSeats, upCard, dealEffect}
-use Rattle.decisions.specs.Round.{anyDrew, anyDecided, roundConditions}
-use Rattle.decisions.specs.Insure.{insureConditions, insureEffect}
-use Rattle.decisions.specs.Turn.{turnConditions, endEffect}
-use Rattle.decisions.specs.Card.{cardEffect}
-use Rattle.decisions.specs.Double.{doubleConditions}
-use Rattle.decisions.specs.Split.{splitConditions, splitEffect}
-use Rattle.settling.specs.BankDraw.{bankBurn, bankTakes, bankAtClose, closeTakes}
-use Rattle.settling.specs.Close.{closeConditions, seatBack, closeEffect}
-use Rattle.answers.specs.Stepped.{stepped}
+use Rattle.cashier_spec.specs.Opening.{openConditions, openNumber, opened}
+use Rattle.cashier_spec.specs.Fill.{fillConditions, fillEffect}
+use Rattle.cashier_spec.specs.Between.{betweenConditions}
+use Rattle.cashier_spec.specs.Buy.{buyConditions, buyEffect}
+use Rattle.cashier_spec.specs.Stake.{stakeConditions, stakeEffect}
+use Rattle.deal_spec.specs.Burn.{burnAtDeal}
+use Rattle.deal_spec.specs.Pass.{pass}
+use Rattle.deal_spec.specs.Deal.{dealTakes, dealConditions, dealtSeats, upCard, dealEffect}
+use Rattle.decision_spec.specs.Round.{anyDrew, anyDecided, roundConditions}
+use Rattle.decision_spec.specs.Insure.{insureConditions, insureEffect}
+use Rattle.decision_spec.specs.Turn.{turnConditions, endEffect}
+use Rattle.decision_spec.specs.Card.{cardEffect}
+use Rattle.decision_spec.specs.Double.{doubleConditions}
+use Rattle.decision_spec.specs.Split.{splitConditions, splitEffect}
+use Rattle.close_spec.specs.BankDraw.{bankBurn, bankTakes, bankAtClose, closeTakes}
+use Rattle.close_spec.specs.Close.{closeConditions, seatBack, closeEffect}
+use Rattle.answer.specs.Stepped.{stepped}
 use Rattle.engine.specs.Step.{number, next, step}
 
 pub house : Options

@@ -6,24 +6,24 @@ use Rattle.call.specs.declared.Call.the-variants.{Fill, Credit, Buy, Cash, Stak
 use Rattle.call.specs.Refusal.{Condition}
 use Rattle.call.specs.Answer.{Shown, nothing}
 use Rattle.table.specs.declared.Table.{Table}
-use Rattle.answers.specs.Stepped.{Step, stepped}
-use Rattle.cashier.specs.Fill.{fillConditions, fillEffect}
-use Rattle.cashier.specs.Credit.{creditConditions, creditEffect}
-use Rattle.cashier.specs.Buy.{buyConditions, buyEffect}
-use Rattle.cashier.specs.Cash.{cashConditions, cashEffect}
-use Rattle.cashier.specs.Load.{loadConditions, loadEffect}
-use Rattle.cashier.specs.Stake.{stakeConditions, stakeEffect}
-use Rattle.dealing.specs.Deal.{dealConditions, dealEffect}
-use Rattle.dealing.specs.Void.{voidConditions, voidEffect}
-use Rattle.decisions.specs.Insure.{insureConditions, insureEffect}
-use Rattle.decisions.specs.Surrender.{surrenderConditions, surrenderEffect}
-use Rattle.decisions.specs.Stand.{standConditions, standEffect}
-use Rattle.decisions.specs.Draw.{drawConditions, drawEffect}
-use Rattle.decisions.specs.Double.{doubleConditions, doubleEffect}
-use Rattle.decisions.specs.Split.{splitConditions, splitEffect}
-use Rattle.decisions.specs.Even.{evenConditions, evenEffect}
-use Rattle.decisions.specs.Five.{fiveConditions, fiveEffect}
-use Rattle.settling.specs.Close.{closeConditions, closeEffect, closeShown}
+use Rattle.answer.specs.Stepped.{Step, stepped}
+use Rattle.cashier_spec.specs.Fill.{fillConditions, fillEffect}
+use Rattle.cashier_spec.specs.Credit.{creditConditions, creditEffect}
+use Rattle.cashier_spec.specs.Buy.{buyConditions, buyEffect}
+use Rattle.cashier_spec.specs.Cash.{cashConditions, cashEffect}
+use Rattle.cashier_spec.specs.Load.{loadConditions, loadEffect}
+use Rattle.cashier_spec.specs.Stake.{stakeConditions, stakeEffect}
+use Rattle.deal_spec.specs.Deal.{dealConditions, dealEffect}
+use Rattle.deal_spec.specs.Void.{voidConditions, voidEffect}
+use Rattle.decision_spec.specs.Insure.{insureConditions, insureEffect}
+use Rattle.decision_spec.specs.Surrender.{surrenderConditions, surrenderEffect}
+use Rattle.decision_spec.specs.Stand.{standConditions, standEffect}
+use Rattle.decision_spec.specs.Draw.{drawConditions, drawEffect}
+use Rattle.decision_spec.specs.Double.{doubleConditions, doubleEffect}
+use Rattle.decision_spec.specs.Split.{splitConditions, splitEffect}
+use Rattle.decision_spec.specs.Even.{evenConditions, evenEffect}
+use Rattle.decision_spec.specs.Five.{fiveConditions, fiveEffect}
+use Rattle.close_spec.specs.Close.{closeConditions, closeEffect, closeShown}
 
 -- A call's conditions on a table, with the order that is lent beside it.
 abbrev pub conditions : Table → Call → List ℕ → List Condition

@@ -1,11 +1,11 @@
 // One step over all seventeen calls: it takes the enum apart. The order that a load reads is lent beside the call; every other call ignores it.
 ghost use mathlib.Core.Path.{_≡_};
-ghost use Rattle.answers.specs.Stepped.{stepOf};
+ghost use Rattle.answer.specs.Stepped.{stepOf};
 ghost use Rattle.engine.specs.Step.{step as stepBy};
-use answers::Stepped;
-use answers::plain_step;
+use answer::Stepped;
+use answer::plain_step;
 use call::Call;
-use closing::close;
+use close::close;
 use table::Table;
 
 pub fn step(t: Table, c: Call, order: &[u8]) -> Stepped
@@ -14,23 +14,23 @@ pub fn step(t: Table, c: Call, order: &[u8]) -> Stepped
     // Close alone makes its answer itself. The empty answer of every other call is made at one place, so that the compiler copies the table less
     // often.
     let o = match c {
-        Call::Fill(n) => filling::fill(t, n),
-        Call::Credit(n) => crediting::credit(t, n),
-        Call::Buy(at, n) => buying::buy(t, at, n),
-        Call::Cash(at, n) => cashing::cash(t, at, n),
-        Call::Stake(at, n) => staking::stake(t, at, n),
+        Call::Fill(n) => cashier::fill::fill(t, n),
+        Call::Credit(n) => cashier::credit::credit(t, n),
+        Call::Buy(at, n) => cashier::buy::buy(t, at, n),
+        Call::Cash(at, n) => cashier::cash::cash(t, at, n),
+        Call::Stake(at, n) => cashier::stake::stake(t, at, n),
         Call::Deal => deal::deal(t),
-        Call::Insure(at, n) => insuring::insure(t, at, n),
-        Call::Stand(at) => ending::stand(t, at),
-        Call::Draw(at) => drawing::draw(t, at),
-        Call::Double(at) => drawing::double(t, at),
-        Call::Split(at) => splitting::split(t, at),
-        Call::Surrender(at) => surrendering::surrender(t, at),
-        Call::Even(at) => ending::even(t, at),
-        Call::Five(at) => ending::five(t, at),
+        Call::Insure(at, n) => decisions::insure::insure(t, at, n),
+        Call::Stand(at) => decisions::end::stand(t, at),
+        Call::Draw(at) => draw::draw::draw(t, at),
+        Call::Double(at) => draw::draw::double(t, at),
+        Call::Split(at) => draw::split::split(t, at),
+        Call::Surrender(at) => decisions::surrender::surrender(t, at),
+        Call::Even(at) => decisions::end::even(t, at),
+        Call::Five(at) => decisions::end::five(t, at),
         Call::Close => return close(t),
-        Call::Void => voiding::void(t),
-        Call::Load => loading::load(t, order),
+        Call::Void => deal::void::void(t),
+        Call::Load => cashier::load::load(t, order),
     };
     plain_step(o)
 }

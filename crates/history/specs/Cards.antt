@@ -5,7 +5,7 @@ use mathlib.Core.List.{List, [], _∷_, _++_}
 use Prim.Native.Nat.{ℕ, suc, _+_, _*_}
 use lib.Dec.{leb, eqb}
 use lib.ListN.{getD, take, drop}
-use Rattle.totals.specs.Total.{total}
+use Rattle.cards.specs.Total.{total}
 use Rattle.options.specs.declared.Options.{Options}
 use Rattle.history.specs.Entry.{Entry, isDeal, isDraw, isDouble, isSplit, isClose, isEnd, isLoad}
 use Rattle.history.specs.Rounds.{stakedBelow}

@@ -7,8 +7,8 @@ use lib.Dec.{ltb}
 use lib.ListN.{getD, take, drop, set}
 use Rattle.cards.specs.Card.{isAce}
 use Rattle.options.specs.declared.Options.{Options}
-use Rattle.standing.specs.SeatHand.{Played, dealt, split, splitAces, notEnded, byStand, byDouble, bySurrender, byEven, byFive}
-use Rattle.turn.specs.Turn.{waitingPlace}
+use Rattle.rules.specs.SeatHand.{Played, dealt, split, splitAces, notEnded, byStand, byDouble, bySurrender, byEven, byFive}
+use Rattle.rules.specs.Turn.{waitingPlace}
 use Rattle.history.specs.Entry.{Entry, isOf, isDeal, isStand, isDraw, isDouble, isSplit, isSurrender, isEven, isFive, isEnd}
 use Rattle.history.specs.Rounds.{stakeIn, stakedBelow}
 use Rattle.history.specs.Cards.{Cards, dealBurns, cardsOfHistory}

@@ -7,14 +7,14 @@ use Prim.Native.Nat.{ℕ, _+_}
 use lib.IntN.{ℤ, pos, _+ℤ_, _-ℤ_}
 use lib.ListN.{getD}
 use Rattle.options.specs.declared.Options.{Options}
-use Rattle.bank.specs.declared.Score.{Score}
-use Rattle.standing.specs.SeatHand.{Played}
-use Rattle.bank.specs.Bank.{scoreOf}
-use Rattle.turn.specs.Turn.{waitingPlace}
+use Rattle.payment.specs.declared.bank.Score.{Score}
+use Rattle.rules.specs.SeatHand.{Played}
+use Rattle.payment.specs.Bank.{scoreOf}
+use Rattle.rules.specs.Turn.{waitingPlace}
 use Rattle.payment.specs.Pay.{net}
 use Rattle.payment.specs.HandPay.{handPay}
 use Rattle.payment.specs.Insurance.{insurancePay}
-use Rattle.stakes.specs.Prize.{prize}
+use Rattle.payment.specs.Prize.{prize}
 use Rattle.history.specs.Entry.{Entry, isOf, isFill, isCredit, isBuy, isCash, isStake, isInsure, isDraw, isDouble, isSplit, isClose, isVoid, isEnd, amountOf}
 use Rattle.history.specs.Rounds.{stakeIn, insuranceIn}
 use Rattle.history.specs.Cards.{Cards, cardsOfHistory, bankFinal}

@@ -2,13 +2,13 @@
 use mathlib.Core.Bool.{cond, _&&_}
 use Prim.Native.Nat.{ℕ, _+_, _-_, _*_, _/_}
 use lib.Dec.{ltb, eqb}
-use Rattle.totals.specs.Total.{total, isBust}
+use Rattle.cards.specs.Total.{total, isBust}
 use Rattle.options.specs.declared.Options.{Options}
-use Rattle.bank.specs.declared.Score.{Score}
-use Rattle.standing.specs.SeatHand.{Played, natural, byDouble, bySurrender, byEven, byFive}
+use Rattle.payment.specs.declared.bank.Score.{Score}
+use Rattle.rules.specs.SeatHand.{Played, natural, byDouble, bySurrender, byEven, byFive}
 use Rattle.payment.specs.declared.pay.Pay.{Pay}
 use Rattle.payment.specs.Pay.{pay}
-use Rattle.stakes.specs.Wager.{wager}
+use Rattle.payment.specs.Wager.{wager}
 
 -- What goes back where W lay and the net is +x, 0 or −x.
 abbrev pub plus : ℕ → ℕ → ℕ

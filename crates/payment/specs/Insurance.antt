@@ -1,7 +1,7 @@
 -- Document 01, "Payment", article 12: insurance I: +2I on a bank natural, else −I.
 use mathlib.Core.Bool.{cond}
 use Prim.Native.Nat.{ℕ, _*_}
-use Rattle.bank.specs.declared.Score.{Score}
+use Rattle.payment.specs.declared.bank.Score.{Score}
 use Rattle.payment.specs.declared.pay.Pay.{Pay}
 use Rattle.payment.specs.Pay.{pay}
 

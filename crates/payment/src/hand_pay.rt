@@ -1,20 +1,20 @@
 // The pay of a hand: the first rule that fits.
 ghost use mathlib.Core.Path.{_≡_};
 ghost use Prim.Native.Nat.{_*_, _≤_};
-ghost use Rattle.hands.specs.Hand.{cardsOf};
-ghost use Rattle.totals.specs.Total.{total as totalOf};
-ghost use Rattle.standing.specs.SeatHand.{playedOf};
+ghost use Rattle.cards.specs.Hand.{cardsOf};
+ghost use Rattle.cards.specs.Total.{total as totalOf};
+ghost use Rattle.rules.specs.SeatHand.{playedOf};
 ghost use Rattle.payment.specs.HandPay.{byTotals, againstNatural, againstBank, handPay};
+use crate::bank::Score;
 use crate::pay::Pay;
-use bank::Score;
+use crate::stake::wager;
 use options::Options;
-use stakes::wager;
-use standing::seat_hand::BY_DOUBLE;
-use standing::seat_hand::BY_EVEN;
-use standing::seat_hand::BY_FIVE;
-use standing::seat_hand::BY_SURRENDER;
-use standing::seat_hand::SeatHand;
-use standing::seat_hand::is_natural;
+use rules::seat_hand::BY_DOUBLE;
+use rules::seat_hand::BY_EVEN;
+use rules::seat_hand::BY_FIVE;
+use rules::seat_hand::BY_SURRENDER;
+use rules::seat_hand::SeatHand;
+use rules::seat_hand::is_natural;
 
 // By totals, neither above 21: the margin is 21 where they are equal.
 fn by_totals(laid: u64, mine: u32, bank: u32) -> u64
@@ -72,7 +72,7 @@ pub fn hand_pay(o: Options, bank: Score, stake: u32, h: SeatHand) -> Pay
     let laid = wager(stake, h);
     let s = stake as u64;
     let hand = h.hand;
-    let mine = totals::total(hand);
+    let mine = cards::total::total(hand);
     let ended = h.ended;
     let back = match ended {
         BY_SURRENDER => laid - s / 2,

@@ -1,8 +1,8 @@
 // The pay of an insurance (article 12): three times it goes back on a bank natural, else nothing.
 ghost use mathlib.Core.Path.{_≡_};
 ghost use Rattle.payment.specs.Insurance.{insurancePay};
+use crate::bank::Score;
 use crate::pay::Pay;
-use bank::Score;
 
 pub fn insurance_pay(bank: Score, insurance: u32) -> Pay
     ensures { λ r. ⌜ r ≡ insurancePay bank insurance ⌝ }

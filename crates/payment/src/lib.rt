@@ -1,5 +1,7 @@
-// Payment (document 01): the pay of a hand and of an insurance.
-// Stakes and insurances are 32 bits wide, so every value is taken and no sum wraps.
+// payment: bank, stakes, payment, cover, rehearsed.
+pub mod bank;
+pub mod cover;
 pub mod hand_pay;
 pub mod insurance;
 pub mod pay;
+pub mod stake;

@@ -3,13 +3,13 @@ ghost use Prim.Native.Nat.{_≤_};
 use crate::lines;
 use crate::stage::Stage;
 use crate::stage::lent;
-use answers::Stepped;
+use answer::Stepped;
 use call::At;
 use call::Call;
 use engine::step;
-use orders::Order;
 use script::digit;
 use script::number;
+use script::orders::Order;
 use table::Table;
 
 // The call that a letter stands for.

@@ -3,14 +3,14 @@ ghost use Prim.Native.Nat.{_≤_};
 use crate::lines;
 use crate::stage::Stage;
 use crate::stage::lent;
-use opening::opening;
+use answer::outcome::Outcome;
+use cashier::opening::opening;
 use options::Options;
-use orders::Order;
-use orders::begun_order;
-use outcome::Outcome;
 use script::card;
 use script::digit;
 use script::number;
+use script::orders::Order;
+use script::orders::begun_order;
 
 // The order as a builder may lend it wrongly: one card short (-), with a byte that is no card in its last place (x), or with the first card there (2).
 fn spoilt(o: Order, letter: u8) -> Order {

@@ -1,19 +1,19 @@
 // What the rehearsal writes.
 ghost use Prim.Native.Nat.{_≤_, _+_};
-use answers::Answer;
-use answers::PayLines;
-use answers::Settlement;
+use answer::Answer;
+use answer::PayLines;
+use answer::Settlement;
 use call::INSURANCE;
 use call::PayLine;
+use cards::hand::Hand;
+use cards::hand::held;
+use display::hand::HandShown;
+use display::hand::shown_hand;
+use display::seat::shown_seat;
 use display::shown_table;
 use display::shown_turn;
-use hand_display::HandShown;
-use hand_display::shown_hand;
-use hands::hand::Hand;
-use hands::hand::held;
 use libc::STDOUT_FILENO;
 use script::end_of;
-use seat_display::shown_seat;
 use table::Table;
 
 fn words(text: &[u8]) {

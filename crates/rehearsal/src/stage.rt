@@ -1,9 +1,9 @@
 // What the rehearsal keeps from row to row: the table, and the order that the next opening or load is lent.
 ghost use Prim.Native.Nat.{_≤_};
-use blank::no_options;
-use opening::opening;
-use orders::Order;
-use orders::begun_order;
+use cashier::opening::opening;
+use script::orders::Order;
+use script::orders::begun_order;
+use state::blank::no_options;
 use table::Table;
 
 pub struct Stage {

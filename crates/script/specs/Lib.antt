@@ -2,3 +2,5 @@
 pub mod Number
 pub mod Cards
 pub mod Lines
+-- Orders of cards.
+pub mod Begun

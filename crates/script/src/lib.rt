@@ -1,4 +1,6 @@
 // What the programs read of a script: its lines, numbers and cards. Every text is taken.
+pub mod orders;
+
 ghost use mathlib.Core.Path.{_≡_};
 ghost use Rattle.script.specs.Number.{digitOf, withDigit, numberOf};
 ghost use Rattle.script.specs.Cards.{rankNamed, suitNamed, cardNamed};

@@ -1,10 +1,10 @@
 // The marked session of document 01. Header and call names are fixed byte strings; every figure is read from the answer and the table that a step gave.
 use call::At;
 use call::Call;
+use cashier::opening::opening;
 use display::shown_table;
 use engine::step;
 use libc::STDOUT_FILENO;
-use opening::opening;
 use options::Options;
 use table::Table;
 

@@ -1,4 +1,7 @@
 // Cards of the shoe: those ahead, so many drawn, and a new shoe.
+pub mod discards;
+pub mod gathering;
+
 ghost use mathlib.Core.Path.{_≡_};
 ghost use Prim.Native.Nat.{_+_, _≤_};
 ghost use lib.ListN.{length, getD};

@@ -7,7 +7,7 @@ use lib.ListN.{length}
 use Rattle.lists.specs.Sum.{sum}
 use Rattle.lists.proofs.Sums.{sum-at-most, sum-plus, sum-has}
 use Rattle.cards.specs.Card.{isAce}
-use Rattle.stakes.proofs.Bounds.{seat-prizes}
+use Rattle.payment.proofs.stake.Bounds.{seat-prizes}
 use Rattle.table.specs.declared.Table.{Table}
 use Rattle.table.specs.Seat.{noSeat, stake, hands, prizes, seatCover}
 use Rattle.table.specs.Table.{seatAt, isDealt, up}

@@ -15,14 +15,14 @@ use Rattle.lists.specs.Below.{allBelow}
 use Rattle.lists.proofs.Tests.{and-at, or-other, or-unless, test-some, some-test, test-where, where-test, all-at, at-all}
 use Rattle.lists.proofs.Below.{all-below, below-all}
 use Rattle.cards.specs.Card.{isAce}
-use Rattle.hands.specs.Hand.{cardsOf}
-use Rattle.totals.specs.Length.{couldBePlayed}
+use Rattle.cards.specs.Hand.{cardsOf}
+use Rattle.cards.specs.Length.{couldBePlayed}
 use Rattle.options.specs.declared.Options.{Options}
 use Rattle.options.specs.Ranges.{inRange}
 use Rattle.options.specs.Facts.{InRange}
 use Rattle.options.proofs.Facts.{in-range-facts}
-use Rattle.standing.specs.declared.seat_hand.SeatHand.{SeatHand}
-use Rattle.standing.proofs.Places.{many-hands}
+use Rattle.rules.specs.declared.seat_hand.SeatHand.{SeatHand}
+use Rattle.rules.proofs.seat_hand.Places.{many-hands}
 use Rattle.table.specs.declared.Seat.{Seat}
 use Rattle.table.specs.declared.Table.{Table}
 use Rattle.table.specs.Seat.{noPlace, purse, stake, insurance, isStaked, hands, laid, prizes}

@@ -13,9 +13,9 @@ use Rattle.lists.proofs.Sums.{sum-append, sum-map, sum-none, sum-ones}
 use Rattle.lists.proofs.Places.{getD-any}
 use Rattle.lists.proofs.Stores.{sets-taken}
 use Rattle.cards.specs.Card.{isAce}
-use Rattle.hands.specs.Hand.{emptyHand}
+use Rattle.cards.specs.Hand.{emptyHand}
 use Rattle.options.specs.declared.Options.{Options}
-use Rattle.standing.specs.declared.seat_hand.SeatHand.{SeatHand}
+use Rattle.rules.specs.declared.seat_hand.SeatHand.{SeatHand}
 use Rattle.table.specs.declared.Seat.{Seat}
 use Rattle.table.specs.declared.Shoe.{Shoe}
 use Rattle.table.specs.declared.Table.{Table}

@@ -11,10 +11,10 @@ use Rattle.lists.specs.Sum.{sum}
 use Rattle.lists.proofs.Sums.{sum-set, sum-flat}
 use Rattle.lists.proofs.Places.{map-set, holds-set}
 use Rattle.lists.proofs.Inserts.{two-for, take-two-for, length-two-for, sum-two-for, holds-two-for, map-two-for}
-use Rattle.standing.specs.declared.seat_hand.SeatHand.{SeatHand}
-use Rattle.standing.specs.SeatHand.{Played, playedOf}
-use Rattle.standing.proofs.Places.{many-hands, hand-at}
-use Rattle.stakes.specs.Wager.{wager}
+use Rattle.rules.specs.declared.seat_hand.SeatHand.{SeatHand}
+use Rattle.rules.specs.SeatHand.{Played, playedOf}
+use Rattle.rules.proofs.seat_hand.Places.{many-hands, hand-at}
+use Rattle.payment.specs.Wager.{wager}
 use Rattle.table.specs.declared.Money.{Money}
 use Rattle.table.specs.declared.Seat.{Seat}
 use Rattle.table.specs.Seat.{makeSeat, noPlace, stake, insurance, hands, seatCards, laid}

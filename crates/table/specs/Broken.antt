@@ -7,11 +7,11 @@ use Rattle.lists.specs.Sum.{count}
 use Rattle.lists.specs.Tests.{all}
 use Rattle.lists.specs.Below.{allBelow}
 use Rattle.cards.specs.Card.{isAce}
-use Rattle.hands.specs.Hand.{cardsOf}
-use Rattle.totals.specs.Length.{couldBePlayed}
+use Rattle.cards.specs.Hand.{cardsOf}
+use Rattle.cards.specs.Length.{couldBePlayed}
 use Rattle.options.specs.declared.Options.{Options}
 use Rattle.options.specs.Ranges.{inRange, isEven}
-use Rattle.standing.specs.declared.seat_hand.SeatHand.{SeatHand}
+use Rattle.rules.specs.declared.seat_hand.SeatHand.{SeatHand}
 use Rattle.table.specs.declared.Seat.{Seat}
 use Rattle.table.specs.declared.Table.{Table}
 use Rattle.table.specs.Seat.{purse, stake, insurance, isStaked, laid, prizes}

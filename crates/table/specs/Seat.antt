@@ -6,14 +6,14 @@ use lib.Dec.{ltb, eqb}
 use lib.ListN.{length, replicate}
 use Rattle.lists.specs.Sum.{sum}
 use Rattle.lists.specs.Flat.{flat}
-use Rattle.hands.specs.Hand.{emptyHand}
+use Rattle.cards.specs.Hand.{emptyHand}
 use Rattle.options.specs.declared.Options.{Options}
-use Rattle.standing.specs.declared.seat_hand.SeatHand.{SeatHand}
-use Rattle.standing.specs.declared.seat_hand.SeatHands.{SeatHands}
-use Rattle.standing.specs.SeatHand.{Played, handsOf, dealt, notEnded}
-use Rattle.stakes.specs.Wager.{wager}
-use Rattle.stakes.specs.Prize.{prize}
-use Rattle.cover.specs.Cover.{cover}
+use Rattle.rules.specs.declared.seat_hand.SeatHand.{SeatHand}
+use Rattle.rules.specs.declared.seat_hand.SeatHands.{SeatHands}
+use Rattle.rules.specs.SeatHand.{Played, handsOf, dealt, notEnded}
+use Rattle.payment.specs.Wager.{wager}
+use Rattle.payment.specs.Prize.{prize}
+use Rattle.payment.specs.Cover.{cover}
 use Rattle.table.specs.declared.Money.{Money}
 use Rattle.table.specs.declared.Seat.{Seat}
 

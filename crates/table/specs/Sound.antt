@@ -5,11 +5,11 @@ use Prim.Native.Nat.{ℕ, _+_, _*_, _≤_, _<_}
 use lib.ListN.{length, getD}
 use Rattle.lists.specs.Sum.{count}
 use Rattle.cards.specs.Card.{isAce}
-use Rattle.hands.specs.Hand.{cardsOf}
-use Rattle.totals.specs.Length.{couldBePlayed}
+use Rattle.cards.specs.Hand.{cardsOf}
+use Rattle.cards.specs.Length.{couldBePlayed}
 use Rattle.options.specs.declared.Options.{Options}
 use Rattle.options.specs.Ranges.{inRange}
-use Rattle.standing.specs.declared.seat_hand.SeatHand.{SeatHand}
+use Rattle.rules.specs.declared.seat_hand.SeatHand.{SeatHand}
 use Rattle.table.specs.declared.Seat.{Seat}
 use Rattle.table.specs.declared.Table.{Table}
 use Rattle.table.specs.Seat.{noPlace, purse, stake, insurance, laid, prizes}

@@ -6,10 +6,10 @@ use lib.Dec.{ltb}
 use lib.ListN.{length, getD, set}
 use Rattle.lists.specs.Tests.{any}
 use Rattle.lists.specs.Flat.{flat}
-use Rattle.hands.specs.declared.hand.Hand.{Hand}
-use Rattle.hands.specs.Hand.{cardsOf}
+use Rattle.cards.specs.declared.hand.Hand.{Hand}
+use Rattle.cards.specs.Hand.{cardsOf}
 use Rattle.options.specs.declared.Options.{Options}
-use Rattle.standing.specs.SeatHand.{Played}
+use Rattle.rules.specs.SeatHand.{Played}
 use Rattle.table.specs.declared.Seat.{Seat}
 use Rattle.table.specs.declared.Shoe.{Shoe}
 use Rattle.table.specs.declared.Table.{Table}
@@ -19,9 +19,12 @@ use Rattle.table.specs.Shoe as Shoes
 abbrev pub makeTable : Options → ℕ → List Seat → Hand → Shoe → Table
 makeTable options tray seats bank shoe = record { options = options; tray = tray; seats = seats; bank = bank; shoe = shoe }
 
--- The table with another tray, another seat or another shoe.
+-- The table with another tray, other seats, another seat or another shoe.
 abbrev pub withTray : Table → ℕ → Table
 withTray t tray = makeTable (t .options) tray (t .seats) (t .bank) (t .shoe)
+
+abbrev pub withSeats : Table → List Seat → Table
+withSeats t seats = makeTable (t .options) (t .tray) seats (t .bank) (t .shoe)
 
 abbrev pub withSeat : Table → ℕ → Seat → Table
 withSeat t i s = makeTable (t .options) (t .tray) (set (t .seats) i s) (t .bank) (t .shoe)

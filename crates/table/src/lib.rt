@@ -1,7 +1,7 @@
 // The table: options, tray, nine seats, the bank's hand and the shoe. It holds no enum and no bool, and nothing that can be derived.
-use hands::hand::Hand;
+use cards::hand::Hand;
 use options::Options;
-use standing::seat_hand::SeatHands;
+use rules::seat_hand::SeatHands;
 
 // A guest's money: the purse, and on the layout the stake and the insurance, 0 where there is none.
 pub struct Money {

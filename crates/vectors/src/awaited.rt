@@ -1,14 +1,14 @@
 // Which hand waits, and where in its seat the turn is.
 use crate::lines::answer;
 use crate::lines::number;
-use bank::must_draw;
-use hands::hand::Hand;
+use cards::hand::Hand;
 use options::Options;
-use standing::seat_hand::SeatHand;
-use standing::seat_hand::SeatHands;
-use turn::seat_waits;
-use turn::waiting_place;
-use waiting::waits;
+use payment::bank::must_draw;
+use rules::seat_hand::SeatHand;
+use rules::seat_hand::SeatHands;
+use rules::turn::seat_waits;
+use rules::turn::waiting_place;
+use rules::waiting::waits;
 
 pub fn of_hand(rule: u8, words: &[u8], o: Options, up: u8, many: usize, h: SeatHand) {
     if rule == b'w' {
@@ -20,7 +20,7 @@ pub fn of_seat(rule: u8, words: &[u8], o: Options, up: u8, s: SeatHands) {
     match rule {
         b'n' => number(words, waiting_place(o, up, s) as u64),
         b'a' => answer(words, seat_waits(o, up, s)),
-        b'r' => answer(words, drew::seat_drew(s)),
+        b'r' => answer(words, rules::drew::seat_drew(s)),
         _ => {}
     }
 }

@@ -1,11 +1,11 @@
 // What an example is made of, as the table writes it: cards, hands, and the house's options.
-use hands::hand::Hand;
-use hands::hand::empty_hand;
-use hands::hand::with_card;
+use cards::hand::Hand;
+use cards::hand::empty_hand;
+use cards::hand::with_card;
 use options::Options;
+use rules::seat_hand::SeatHand;
 use script::card;
 use script::digit;
-use standing::seat_hand::SeatHand;
 
 // The hand of the cards that stand two letters each; a pair that begins with a space is none.
 pub fn hand_of(cards: &[u8]) -> Hand {

@@ -1,13 +1,13 @@
 // Payment with a stake of 20 and an insurance of 10.
 use crate::lines::number;
 use crate::lines::pay;
-use bank::Score;
-use cover::cover;
 use options::Options;
+use payment::bank::Score;
+use payment::cover::cover;
 use payment::hand_pay::hand_pay;
 use payment::insurance::insurance_pay;
-use stakes::prize;
-use standing::seat_hand::SeatHand;
+use payment::stake::prize;
+use rules::seat_hand::SeatHand;
 
 pub fn of_hand(rule: u8, words: &[u8], o: Options, bank: Score, h: SeatHand) {
     match rule {

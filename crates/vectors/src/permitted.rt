@@ -1,13 +1,13 @@
 // Which decision the rules permit.
-use leaving::permits_even;
-use leaving::permits_five;
-use leaving::permits_surrender;
 use options::Options;
-use permission::permits_double;
-use permission::permits_draw;
-use permission::permits_split;
-use permission::permits_stand;
-use standing::seat_hand::SeatHand;
+use rules::leaving::permits_even;
+use rules::leaving::permits_five;
+use rules::leaving::permits_surrender;
+use rules::permission::permits_double;
+use rules::permission::permits_draw;
+use rules::permission::permits_split;
+use rules::permission::permits_stand;
+use rules::seat_hand::SeatHand;
 
 pub fn permits(rule: u8, o: Options, up: u8, many: usize, h: SeatHand) -> bool {
     match rule {

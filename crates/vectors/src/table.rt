@@ -9,13 +9,13 @@ use crate::examples::seat_hand;
 use crate::lines::answer;
 use crate::paid;
 use crate::permitted::permits;
-use bank::score_of;
 use options::Options;
+use payment::bank::score_of;
+use rules::seat_hand::SeatHand;
+use rules::seat_hand::SeatHands;
 use script::card;
 use script::digit;
 use script::end_of;
-use standing::seat_hand::SeatHand;
-use standing::seat_hand::SeatHands;
 
 // The hand at one of the four places.
 fn place_of(row: &[u8], k: usize) -> SeatHand

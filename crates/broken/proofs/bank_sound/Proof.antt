@@ -2,7 +2,7 @@
 use mathlib.Core.Path.{sym}
 use borrow.Author.Tests.{eq-eqb, ne-eqb}
 use Rattle.table.specs.Broken.{soundBank}
-use Rattle.sums.proofs.Capping.{some-cover}
+use Rattle.money.proofs.sums.Capping.{some-cover}
 use Rattle.broken.proofs.bank_sound.Statement.{statement}
 use Rattle.broken.proofs.bank_sound.Tie as tie
 

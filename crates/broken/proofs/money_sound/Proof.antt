@@ -12,9 +12,9 @@ use Rattle.table.specs.declared.Table.{Table}
 use Rattle.table.specs.Table.{isDealt}
 use Rattle.table.specs.Money.{limit, allMoney}
 use Rattle.table.specs.Broken.{soundMoney}
-use Rattle.sums.specs.declared.Sums.{Sums}
-use Rattle.sums.specs.Sums.{tableSums}
-use Rattle.limits.proofs.Laws.{past-limit}
+use Rattle.money.specs.declared.sums.Sums.{Sums}
+use Rattle.money.specs.Sums.{tableSums}
+use Rattle.money.proofs.limits.Laws.{past-limit}
 use Rattle.broken.proofs.money_sound.Statement.{statement}
 use Rattle.broken.proofs.money_sound.Tie as tie
 

@@ -18,9 +18,9 @@ use Rattle.table.specs.declared.Table.{Table}
 use Rattle.table.specs.Seat.{noSeat}
 use Rattle.table.specs.Table.{isDealt, up}
 use Rattle.table.specs.Broken.{soundSeat, seatSound}
-use Rattle.sums.specs.Sums.{sumsOver}
-use Rattle.sums.specs.Within.{Within}
-use Rattle.sums.proofs.Pass.{next-seat, within-more}
+use Rattle.money.specs.Sums.{sumsOver}
+use Rattle.money.specs.Within.{Within}
+use Rattle.money.proofs.sums.Pass.{next-seat, within-more}
 use Rattle.broken.proofs.surveyed.Statement.{statement}
 use Rattle.broken.proofs.surveyed.Tie as tie
 

@@ -1,8 +1,8 @@
 -- The number decides: the table as it was, or the effect.
 use mathlib.Core.Path.{sym, _∙_}
 use borrow.Author.Needs.{needs}
-use Rattle.outcome.proofs.Laws.{refused, accepted}
-use Rattle.dealing.specs.Deal.{dealConditions, dealEffect}
+use Rattle.answer.proofs.outcome.Laws.{refused, accepted}
+use Rattle.deal_spec.specs.Deal.{dealConditions, dealEffect}
 use Rattle.deal.proofs.deal.Statement.{statement}
 use Rattle.deal.proofs.deal.Tie as tie
 

@@ -5,8 +5,8 @@ use lib.Dec.{ltb, leb}
 use borrow.Author.Needs.{needs}
 use borrow.Author.Tests.{lt-ltb, le-ltb, le-leb, lt-leb}
 use Rattle.call.specs.Refusal.{first}
-use Rattle.sums.proofs.Capping.{none-staked, is-staked}
-use Rattle.dealing.specs.Deal.{dealConditions}
+use Rattle.money.proofs.sums.Capping.{none-staked, is-staked}
+use Rattle.deal_spec.specs.Deal.{dealConditions}
 use Rattle.deal.proofs.Asked.{covered-is}
 use Rattle.deal.proofs.deal_number.Statement.{statement}
 use Rattle.deal.proofs.deal_number.Tie as tie

@@ -3,8 +3,8 @@ use mathlib.Core.Path.{_≡_, _∙_, ap, ap₂}
 use native.Mathlib.Omega.{arith}
 use borrow.Author.Needs.{needs}
 use lib.ListN.{length, length-map}
-use Rattle.hands.specs.declared.hand.Hand.{Hand}
-use Rattle.hands.specs.Hand.{withCard}
+use Rattle.cards.specs.declared.hand.Hand.{Hand}
+use Rattle.cards.specs.Hand.{withCard}
 use Rattle.table.specs.declared.Shoe.{Shoe}
 use Rattle.table.specs.Shoe.{drawn}
 use Rattle.deal.proofs.Room.{deal-room}

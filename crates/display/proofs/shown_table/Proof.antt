@@ -4,9 +4,9 @@ use native.Mathlib.Omega.{arith}
 use borrow.Author.Needs.{needs}
 use Rattle.table.specs.Money.{layout, purses}
 use Rattle.table.proofs.Facts.{unbroken}
-use Rattle.sums.specs.declared.Sums.{Sums}
-use Rattle.sums.proofs.Capping.{within-capped}
-use Rattle.display.specs.Shown.{tableShown}
+use Rattle.money.specs.declared.sums.Sums.{Sums}
+use Rattle.money.proofs.sums.Capping.{within-capped}
+use Rattle.display.specs.DisplayShown.{tableShown}
 use Rattle.display.proofs.shown_table.Statement.{statement}
 use Rattle.display.proofs.shown_table.Tie as tie
 

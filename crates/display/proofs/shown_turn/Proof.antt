@@ -3,8 +3,8 @@ use mathlib.Core.Path.{_≡_, sym, _∙_}
 use lib.ListN.{length, length-map}
 use borrow.Author.Needs.{needs}
 use borrow.Author.Tests.{lt-ltb, le-ltb}
-use Rattle.turns.proofs.Hands.{waits-below}
-use Rattle.display.specs.Shown.{turnShown}
+use Rattle.state.proofs.turns.Hands.{waits-below}
+use Rattle.display.specs.DisplayShown.{turnShown}
 use Rattle.display.proofs.shown_turn.Statement.{statement}
 use Rattle.display.proofs.shown_turn.Tie as tie
 

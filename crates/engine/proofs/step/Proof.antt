@@ -9,11 +9,11 @@ use Rattle.call.specs.declared.Call.{Call}
 use Rattle.call.specs.Refusal.{Condition}
 use Rattle.call.specs.Answer.{nothing}
 use Rattle.table.specs.declared.Table.{Table}
-use Rattle.outcome.specs.declared.Outcome.{Outcome}
-use Rattle.outcome.specs.Outcome.{outcome}
-use Rattle.answers.specs.declared.Stepped.{Stepped}
-use Rattle.answers.specs.Stepped.{stepped, stepOf, plainStep}
-use Rattle.answers.proofs.Laws.{plain}
+use Rattle.answer.specs.declared.outcome.Outcome.{Outcome}
+use Rattle.answer.specs.Outcome.{outcome}
+use Rattle.answer.specs.declared.Stepped.{Stepped}
+use Rattle.answer.specs.Stepped.{stepped, stepOf, plainStep}
+use Rattle.answer.proofs.Laws.{plain}
 use Rattle.engine.specs.Step.{step}
 use Rattle.engine.proofs.step.Statement.{statement}
 use Rattle.engine.proofs.step.Tie as tie

@@ -6,9 +6,9 @@ use native.Mathlib.Nat.{sub-self}
 use native.Mathlib.Omega.{arith}
 use borrow.Author.Needs.{needs}
 use borrow.Author.Tests.{lt-ltb, le-ltb, ne-eqb}
-use Rattle.standing.specs.SeatHand.{playedOf}
+use Rattle.rules.specs.SeatHand.{playedOf}
 use Rattle.payment.specs.HandPay.{handBack}
-use Rattle.stakes.proofs.Bounds.{wager-bounds}
+use Rattle.payment.proofs.stake.Bounds.{wager-bounds}
 use Rattle.payment.proofs.hand_pay.hand_pay.Statement.{statement}
 use Rattle.payment.proofs.hand_pay.hand_pay.Tie as tie
 

@@ -1,3 +1,0 @@
--- What a step gives back.
-pub mod Settlement
-pub mod Stepped

@@ -1,2 +1,0 @@
--- How the bank's cards stand.
-pub mod Bank

@@ -1,0 +1,70 @@
+// Whether a seat of any table value is sound (docs/BROKEN.md, 4): its number, stake, insurance, hands and prizes, tested as
+// `table/specs/Broken.antt` does. `dealt`: a round is dealt; `ace`: the up card is one. Every damaged value is taken.
+ghost use mathlib.Core.Path.{_≡_};
+ghost use Prim.Native.Nat.{_+_};
+ghost use lib.Dec.{leb};
+ghost use Rattle.table.specs.Seat.{purse};
+ghost use Rattle.table.specs.Broken.{soundNumber, soundStake, soundInsurance, soundHands, soundSeat};
+ghost use Rattle.money.specs.Sums.{seatSums};
+use crate::playable::all_sound;
+use money::amounts::insurance_permitted;
+use money::amounts::stake_permitted;
+use money::sums::Sums;
+use options::Options;
+use table::Seat;
+
+// A seat beyond the option holds nothing.
+fn sound_number(o: Options, i: usize, s: Seat) -> bool
+    ensures { λ r. ⌜ r ≡ soundNumber o i s ⌝ }
+{
+    let m = s.money;
+    let hands = s.hands;
+    i < (o.seats as usize)
+        || (m.purse == 0 && (m.stake == 0 && (m.insurance == 0 && hands.many == 0)))
+}
+
+fn sound_stake(o: Options, s: Seat) -> bool
+    ensures { λ r. ⌜ r ≡ soundStake o s ⌝ }
+{
+    let m = s.money;
+    m.stake == 0 || stake_permitted(o, m.stake as u64)
+}
+
+fn sound_insurance(o: Options, dealt: bool, ace: bool, s: Seat) -> bool
+    ensures { λ r. ⌜ r ≡ soundInsurance o dealt ace s ⌝ }
+{
+    let m = s.money;
+    m.insurance == 0
+        || (dealt && (ace && (0 < m.stake && insurance_permitted(o, m.stake, m.insurance as u64))))
+}
+
+// No hand and none due, or hands within the option in a dealt round, each of them sound.
+fn sound_hands(o: Options, dealt: bool, s: Seat) -> bool
+    ensures { λ r. ⌜ r ≡ soundHands o dealt s ⌝ }
+{
+    let m = s.money;
+    let hands = s.hands;
+    if hands.many == 0 {
+        return !dealt || !(0 < m.stake);
+    }
+    hands.many <= o.hands && (dealt && (0 < m.stake && all_sound(hands)))
+}
+
+// The prizes are within purse and laid, compared so that no sum wraps.
+fn sound_prizes(s: Seat, m: Sums) -> bool
+    ensures { λ r. ⌜ r ≡ leb (m .prizes) (purse s + m .laid) ⌝ }
+{
+    let money = s.money;
+    m.prizes <= money.purse || m.prizes - money.purse <= m.laid
+}
+
+// Public for broken alone, which works the seat's sums out once: so it asks that `m` is these.
+pub fn sound_seat(o: Options, dealt: bool, ace: bool, i: usize, s: Seat, m: Sums) -> bool
+    requires { ⌜ m ≡ seatSums o s ⌝ }
+    ensures { λ r. ⌜ r ≡ soundSeat o dealt ace i s ⌝ }
+{
+    sound_number(o, i, s)
+        && (sound_stake(o, s)
+            && (sound_insurance(o, dealt, ace, s)
+                && (sound_hands(o, dealt, s) && sound_prizes(s, m))))
+}

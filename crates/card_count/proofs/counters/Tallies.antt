@@ -1,0 +1,81 @@
+-- Laws of counters: over an appended list, one card more, what each counter comes to, and the room that is left.
+use mathlib.Core.Path.{_≡_, refl, sym, ap, _∙_}
+use mathlib.Core.List.{List, [], _∷_, _++_}
+use Prim.Native.Nat.{ℕ, _+_, _*_, _≤_, _<_}
+use native.Mathlib.Decide.{ℕ-discrete, decLe}
+use native.Mathlib.Numerals.{add-one}
+use native.Mathlib.Omega.{arith}
+use borrow.Author.Tests.{eq-eqb, ne-eqb}
+use lib.ListN.{length, getD, take, length-set, replicate, length-replicate, getD-replicate, List·getD-eq-default}
+use lib.Dec.{eqb}
+use lib.Seq.{take-suc, getD-set-same, getD-set-other, lt-length-set}
+use Rattle.lists.specs.Sum.{sum, count, isIt}
+use Rattle.lists.proofs.Sums.{sum-most}
+use Rattle.lists.proofs.Picks.{cond-most}
+use Rattle.card_count.specs.Tally.{noCounts, counted, tally, Room}
+
+pub tally-append : (of xs ys : List ℕ) → tally of (xs ++ ys) ≡ tally (tally of xs) ys
+unfolding tally
+tally-append of [] ys = refl
+tally-append of (x ∷ xs) ys = tally-append (counted of x) xs ys
+
+tally-one : (of : List ℕ) (x : ℕ) → tally of (x ∷ []) ≡ counted of x
+unfolding tally
+tally-one of x = refl
+
+-- the first i + 1 cards: the first i, and the one at i
+pub tally-next : (of xs : List ℕ) (i : ℕ) → i < length xs → counted (tally of (take i xs)) (getD xs i 0) ≡ tally of (take (i + 1) xs)
+tally-next of xs i h =
+    sym (ap (λ (n : ℕ). tally of (take n xs)) (add-one i)
+    ∙ ap (tally of) (take-suc xs i 0 h)
+    ∙ tally-append of (take i xs) (getD xs i 0 ∷ [])
+    ∙ tally-one (tally of (take i xs)) (getD xs i 0))
+
+length-tally : (of xs : List ℕ) → length (tally of xs) ≡ length of
+unfolding tally
+length-tally of [] = refl
+length-tally of (x ∷ xs) = length-tally (counted of x) xs ∙ length-set of x (getD of x 0 + 1)
+
+counted-at : (of : List ℕ) (x b : ℕ) → b < length of → getD (counted of x) b 0 ≡ getD of b 0 + isIt b x
+counted-at of x b h = go (ℕ-discrete b x)
+  where
+    go : Dec (b ≡ x) → getD (counted of x) b 0 ≡ getD of b 0 + isIt b x
+    go (yes e) = rw (← e, getD-set-same, eq-eqb b b refl)
+    go (no n) = rw (getD-set-other of x b (getD of x 0 + 1) 0 n, ne-eqb x b (λ e. n (sym e))) (omega arith)
+
+-- a counter comes to what it was and how often its number stands there
+tally-at : (of xs : List ℕ) (b : ℕ) → b < length of → getD (tally of xs) b 0 ≡ getD of b 0 + count b xs
+unfolding tally sum
+tally-at of [] b h = omega arith
+tally-at of (x ∷ xs) b h = omega (arith, tally-at (counted of x) xs b (lt-length-set of x (getD of x 0 + 1) h), counted-at of x b h)
+
+-- and to at most one more for each card
+tally-most : (of xs : List ℕ) (b : ℕ) → getD (tally of xs) b 0 ≤ getD of b 0 + length xs
+tally-most of xs b = go (decLe (length of) b)
+  where
+    few : count b xs ≤ 1 * length xs
+    few = sum-most (isIt b) 1 (λ x. cond-most (eqb x b) (omega arith) (omega arith)) xs
+
+    go : Dec (length of ≤ b) → getD (tally of xs) b 0 ≤ getD of b 0 + length xs
+    go (yes past) = omega (arith, List·getD-eq-default (tally of xs) 0 {n = b} (rw length-tally past))
+    go (no inside) = omega (arith, tally-at of xs b (omega arith), few)
+
+-- what some cards leave of the room
+pub room-after : (of xs : List ℕ) (n m : ℕ) → Room of n → length xs + m ≤ n → Room (tally of xs) m
+room-after of xs n m room h =
+    record { each-byte = length-tally of xs ∙ room .each-byte; fits = λ b. omega (arith, tally-most of xs b, room .fits b) }
+
+-- counters that begin with zero: their room, and what they come to
+zeros : (n b : ℕ) → getD {A = ℕ} (replicate n 0) b 0 ≡ 0
+zeros n b = go (decLe n b)
+  where
+    go : Dec (n ≤ b) → getD {A = ℕ} (replicate n 0) b 0 ≡ 0
+    go (yes past) = List·getD-eq-default (replicate n 0) 0 {n = b} (rw (length-replicate {A = ℕ}) past)
+    go (no inside) = getD-replicate n b 0 0 (omega arith)
+
+pub room-zeros : (n : ℕ) → n ≤ 65535 → Room noCounts n
+unfolding noCounts
+room-zeros n h = record { each-byte = length-replicate {A = ℕ} 256 0; fits = λ b. omega (arith, zeros 256 b) }
+
+pub tally-zeros : (xs : List ℕ) (b : ℕ) → b < 256 → getD (tally noCounts xs) b 0 ≡ count b xs
+tally-zeros xs b h = omega (arith, tally-at noCounts xs b (rw (room-zeros 0 (omega arith) .each-byte) h), room-zeros 65535 (omega arith) .fits b)

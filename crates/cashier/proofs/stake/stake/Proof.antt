@@ -1,0 +1,64 @@
+-- The number decides: the table as it was, or the effect; an accepted stake's seat is one of the nine, and its purse holds it.
+use mathlib.Core.Path.{_≡_, sym, ap, _∙_}
+use Prim.Native.Nat.{_-_}
+use native.Mathlib.Omega.{arith}
+use borrow.Author.Needs.{needs}
+use Rattle.table.specs.declared.Seat.{Seat}
+use Rattle.table.specs.Seat.{money, makeSeat, purse, insurance}
+use Rattle.table.specs.Table.{seatAt, withSeat}
+use Rattle.answer.proofs.outcome.Laws.{refused, accepted}
+use Rattle.cashier_spec.specs.Stake.{stakeConditions, stakeEffect}
+use Rattle.cashier_spec.proofs.Accepted.{stake-accepted}
+use Rattle.cashier.proofs.stake.stake.Statement.{statement}
+use Rattle.cashier.proofs.stake.stake.Tie as tie
+
+stake-number-requires : tie.Need-stake-number-requires
+stake-number-requires c κs = search needs
+
+returns : tie.Need-returns
+returns c =
+    let t = c .before .before .args .t in
+    let j = c .before .before .args .at .seat in
+    let n = c .before .before .args .n in
+    refused (stakeConditions t j n) (stakeEffect t j n) t _ (c .before .stake-number .ensures) (c .if1 .taken)
+
+cast-j : tie.Need-cast-j
+cast-j c = search needs
+
+seat-of-requires : tie.Need-seat-of-requires
+seat-of-requires c κs =
+    let start = c .before .before .before in
+    stake-accepted (start .args .t) (start .args .at .seat) (start .args .n) (sym (c .before .before .stake-number .ensures) ∙ c .before .if1 .left) .0
+
+staked-requires : tie.Need-staked-requires
+staked-requires c κs =
+    let start = c .before .before .before .before in
+    let facts = stake-accepted (start .args .t) (start .args .at .seat) (start .args .n) (sym (c .before .before .before .stake-number .ensures) ∙ c .before .before .if1 .left) in
+    let same : purse (c .seat-of .result) ≡ purse (seatAt (start .args .t) (start .args .at .seat)) = ap purse (c .seat-of .ensures) in
+    (omega (arith, facts .1), facts .2)
+
+with-seat-requires : tie.Need-with-seat-requires
+with-seat-requires c κs = search needs
+
+returns-2 : tie.Need-returns-2
+unfolding stakeEffect
+returns-2 c =
+    let t = c .before .before .before .before .before .before .args .t in
+    let j = c .before .before .before .before .before .before .args .at .seat in
+    let n = c .before .before .before .before .before .before .args .n in
+    let next : c .before .staked .result ≡ makeSeat (money (purse (seatAt t j) - n) n (insurance (seatAt t j))) (seatAt t j .hands)
+    = c .before .staked .ensures ∙ ap (λ (s : Seat). makeSeat (money (purse s - n) n (insurance s)) (s .hands)) (c .before .before .seat-of .ensures) in
+    accepted (stakeConditions t j n) (stakeEffect t j n) t _ _ (c .before .before .before .before .before .stake-number .ensures) (c .before .before .before .before .if1 .left)
+    (c .with-seat .ensures ∙ ap (withSeat t j) next)
+
+pub stake-spec : {M : Type 1} → statement M
+stake-spec =
+    tie.close
+    (tie.spec
+    stake-number-requires
+    returns
+    cast-j
+    seat-of-requires
+    staked-requires
+    with-seat-requires
+    returns-2)

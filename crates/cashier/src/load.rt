@@ -1,0 +1,51 @@
+// load: a new order for the shoe (document 01, "The seventeen calls"). The lent order is only read. The number function asks the list's conditions
+// in the list's order.
+ghost use mathlib.Core.Path.{_≡_};
+ghost use Rattle.call.specs.Refusal.{first};
+ghost use Rattle.table.specs.Table.{withShoe};
+ghost use Rattle.answer.specs.Outcome.{outcome};
+ghost use Rattle.cashier_spec.specs.Load.{loadConditions, loadEffect};
+use answer::outcome::Outcome;
+use broken::broken;
+use card_count::faces::valid_order;
+use shoe::new_shoe;
+use state::round::is_dealt;
+use table::Shoe;
+use table::Table;
+
+fn with_shoe(t: Table, shoe: Shoe) -> Table
+    ensures { λ r. ⌜ r ≡ withShoe t shoe ⌝ }
+{
+    let mut next = t;
+    next.shoe = shoe;
+    next
+}
+
+fn load_number(t: Table, order: &[u8]) -> u8
+    ensures { λ r. ⌜ r ≡ first (loadConditions t (now (order .entry))) ⌝ }
+{
+    let o = t.options;
+    if broken(t) {
+        return 1;
+    }
+    if !valid_order(o.decks, order) {
+        return 3;
+    }
+    if is_dealt(t) {
+        return 4;
+    }
+    0
+}
+
+pub fn load(t: Table, order: &[u8]) -> Outcome
+    ensures { λ r. ⌜ r ≡ outcome (loadConditions t (now (order .entry))) (loadEffect t (now (order .entry))) t ⌝ }
+{
+    let number = load_number(t, order);
+    if number != 0 {
+        return Outcome { number, table: t };
+    }
+    Outcome {
+        number,
+        table: with_shoe(t, new_shoe(order)),
+    }
+}

@@ -1,0 +1,23 @@
+-- stake: from purse to layout, one per seat a round.
+use mathlib.Core.Bool.{not}
+use mathlib.Core.List.{List, [], _∷_, _++_}
+use Prim.Native.Nat.{ℕ, _-_}
+use lib.Dec.{eqb, ltb}
+use Rattle.call.specs.Refusal.{Condition}
+use Rattle.table.specs.declared.Table.{Table}
+use Rattle.table.specs.Seat.{money, makeSeat, purse, insurance, isStaked}
+use Rattle.table.specs.Table.{withSeat, seatAt}
+use Rattle.table.specs.Broken.{stakePermitted}
+use Rattle.cashier_spec.specs.Between.{betweenConditions}
+
+unfoldable pub stakeConditions : Table → ℕ → ℕ → List Condition
+stakeConditions t j n =
+    betweenConditions t j
+    ++ (9, isStaked (seatAt t j))
+    ∷ (14, eqb n 0)
+    ∷ (14, not (stakePermitted (t .options) n))
+    ∷ (15, ltb (purse (seatAt t j)) n)
+    ∷ []
+
+unfoldable pub stakeEffect : Table → ℕ → ℕ → Table
+stakeEffect t j n = withSeat t j (makeSeat (money (purse (seatAt t j) - n) n (insurance (seatAt t j))) (seatAt t j .hands))

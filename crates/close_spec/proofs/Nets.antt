@@ -1,0 +1,84 @@
+-- What goes back to a seat at close, against the history's nets: a net is what goes back less what lay there.
+use mathlib.Core.Path.{_≡_, refl, subst₂}
+use mathlib.Core.Bool.{Bool, true, false}
+use mathlib.Core.List.{List, [], _∷_}
+use Prim.Native.Nat.{ℕ, _+_, _≤_}
+use native.Mathlib.Decide.{decLe}
+use native.Mathlib.Nat.{le-refl}
+use native.Mathlib.Omega.{arith}
+use lib.Dec.{eqb}
+use lib.IntN.{ℤ}
+use lib.ListN.{length}
+use borrow.Author.Tests.{eqb-true, ne-eqb}
+use Rattle.lists.specs.Sum.{sum}
+use Rattle.lists.proofs.Sums.{sum-none}
+use Rattle.lists.proofs.Differences.{Diff, diff-pos, diff-add, diff-sub}
+use Rattle.options.specs.declared.Options.{Options}
+use Rattle.payment.specs.declared.bank.Score.{Score}
+use Rattle.rules.specs.SeatHand.{Played, playedOf}
+use Rattle.payment.specs.declared.pay.Pay.{Pay}
+use Rattle.payment.specs.Wager.{wager}
+use Rattle.payment.specs.Pay.{net}
+use Rattle.payment.specs.HandPay.{handPay}
+use Rattle.payment.specs.Insurance.{insurancePay}
+use Rattle.payment.proofs.cover.Bounds.{seat-cover}
+use Rattle.table.specs.declared.Seat.{Seat}
+use Rattle.table.specs.Seat.{noPlace, stake, insurance, hands, laid, prizes, seatCover}
+use Rattle.table.specs.Sound.{SoundSeat}
+use Rattle.table.proofs.Facts.{insurance-most, few-hands, most-many, hands-many, no-hands}
+use Rattle.history.specs.Money.{handNets}
+use Rattle.close_spec.specs.Close.{seatBack}
+
+diff-to : {z : ℤ} {p m q n : ℕ} → Diff z p m → p ≡ q → m ≡ n → Diff z q n
+diff-to {z} d e f = subst₂ (λ (a b : ℕ). Diff z a b) e f d
+
+net-diff : (p : Pay) → Diff (net p) (p .back) (p .laid)
+net-diff p = diff-to (diff-sub (diff-pos (p .back)) (diff-pos (p .laid))) (omega arith) (omega arith)
+
+pub nets-diff : (o : Options) (opening : List ℕ) (bank : Score) (S : ℕ) (hs : List Played) → Diff (handNets o opening bank S hs) (sum (λ h. handPay o bank S h .back) hs) (sum (wager S) hs)
+unfolding sum
+nets-diff o opening bank S [] = diff-pos 0
+nets-diff o opening bank S (h ∷ hs) = diff-add (net-diff (handPay o bank S h)) (nets-diff o opening bank S hs)
+
+pub insurance-diff : (bank : Score) (I : ℕ) → Diff (net (insurancePay bank I)) (insurancePay bank I .back) I
+unfolding insurancePay
+insurance-diff bank I = net-diff (insurancePay bank I)
+
+-- in a dealt round a seat has laid the wagers of its hands and its insurance, which is at most its stake
+module _ (o : Options) (ace : Bool) (i : ℕ) (s : Seat) (sound : SoundSeat o true ace i s) where
+  insured-most : insurance s ≤ stake s
+  insured-most = go (decLe (insurance s) 0)
+    where
+      go : Dec (insurance s ≤ 0) → insurance s ≤ stake s
+      go (yes h) = omega arith
+      go (no h) = insurance-most o (stake s) (insurance s) (sound .insured (omega arith) .permitted)
+
+  pub laid-wagers : length (s .hands .places) ≡ 4 → o .hands ≤ 4 → laid s ≡ sum (wager (stake s)) (hands s) + insurance s
+  unfolding laid sum
+  laid-wagers four few = go (decLe (s .hands .many) 0)
+    where
+      go : Dec (s .hands .many ≤ 0) → laid s ≡ sum (wager (stake s)) (hands s) + insurance s
+      go (yes h) =
+          let none : s .hands .many ≡ 0 = omega arith in
+          let unstaked = sound .waiting none refl in
+          rw (no-hands s none) (omega (arith, insured-most))
+      go (no h) =
+          let many = hands-many s four (most-many o true ace i s few sound) in
+          simp (ne-eqb (length (hands s)) 0 (λ none. omega arith))
+
+  -- whatever the length of its places, those are at most what it laid
+  wagers-most : sum (wager (stake s)) (hands s) + insurance s ≤ laid s
+  unfolding laid
+  wagers-most = go (eqb (length (hands s)) 0) refl
+    where
+      go : (none : Bool) → eqb (length (hands s)) 0 ≡ none → sum (wager (stake s)) (hands s) + insurance s ≤ laid s
+      go true e =
+          let empty : length (hands s) ≡ 0 = eqb-true (length (hands s)) 0 e in
+          simp e (omega (arith, insured-most, sum-none (wager (stake s)) (hands s) (playedOf noPlace) (λ p h. absurd (omega arith))))
+      go false e = simp e (le-refl (sum (wager (stake s)) (hands s) + insurance s))
+
+  -- so what goes back to it, with its prizes, is at most what it laid and its cover
+  pub back-most : o .hands ≤ 4 → (bank : Score) → seatBack o bank s + prizes o s ≤ laid s + seatCover s
+  unfolding seatBack prizes
+  back-most few bank =
+      omega (arith, seat-cover o bank (stake s) (hands s) (insurance s) (few-hands o true ace i s few sound) insured-most, wagers-most)

@@ -1,0 +1,30 @@
+-- Document 01, close: bank's burn if the option is 2, the bank's second card, then cards while its total is 16 or less, even if every hand is bust.
+use mathlib.Core.Bool.{cond}
+use mathlib.Core.List.{List, [], _∷_, _++_}
+use Prim.Native.Nat.{ℕ, _+_, _-_}
+use lib.Dec.{eqb}
+use lib.ListN.{length, take, drop}
+use Rattle.options.specs.declared.Options.{Options}
+use Rattle.payment.specs.Bank.{mustDraw}
+use Rattle.table.specs.declared.Table.{Table}
+use Rattle.table.specs.Table.{bankCards, tableShoe}
+
+-- Later burn 2: one card before the bank's second card.
+unfoldable pub bankBurn : Options → ℕ
+bankBurn o = cond (eqb (o .later) 2) 1 0
+
+-- Cards while the total is 16 or less, as long as the shoe has any. One card is never above 16, so the second comes by the same rule.
+unfoldable pub bankTakes : List ℕ → List ℕ → List ℕ
+bankTakes cards [] = cards
+bankTakes cards (card ∷ rest) = cond (mustDraw cards) (bankTakes (cards ++ (card ∷ [])) rest) cards
+
+-- The card that is burnt at close, and the bank's cards.
+abbrev pub burntAtClose : Table → List ℕ
+burntAtClose t = take (bankBurn (t .options)) (tableShoe t)
+
+unfoldable pub bankAtClose : Table → List ℕ
+bankAtClose t = bankTakes (bankCards t) (drop (bankBurn (t .options)) (tableShoe t))
+
+-- How many cards close takes of the shoe.
+unfoldable pub closeTakes : Table → ℕ
+closeTakes t = bankBurn (t .options) + (length (bankAtClose t) - length (bankCards t))

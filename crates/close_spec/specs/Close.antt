@@ -1,0 +1,54 @@
+-- close: the bank's cards are drawn, all is paid and all cards become discards.
+use mathlib.Core.List.{List, [], _∷_, _++_, map}
+use mathlib.Core.Bool.{not}
+use Prim.Native.Nat.{ℕ, _+_, _-_}
+use Rattle.lists.specs.Sum.{sum}
+use Rattle.call.specs.Refusal.{Condition}
+use Rattle.call.specs.Answer.{Shown}
+use Rattle.cards.specs.Hand.{emptyHand}
+use Rattle.options.specs.declared.Options.{Options}
+use Rattle.payment.specs.declared.bank.Score.{Score}
+use Rattle.payment.specs.Bank.{mustDraw, scoreOf}
+use Rattle.rules.specs.Turn.{someWaits}
+use Rattle.payment.specs.HandPay.{handPay}
+use Rattle.payment.specs.Insurance.{insurancePay}
+use Rattle.table.specs.declared.Seat.{Seat}
+use Rattle.table.specs.declared.Table.{Table}
+use Rattle.table.specs.Seat.{money, makeSeat, noHands, purse, stake, insurance, hands}
+use Rattle.table.specs.Shoe.{drawn, discard}
+use Rattle.table.specs.Table.{makeTable, seatsHands, handCards, isDealt, up}
+use Rattle.table.specs.Money.{layout}
+use Rattle.table.specs.Broken.{broken}
+use Rattle.close_spec.specs.BankDraw.{burntAtClose, bankAtClose, closeTakes}
+use Rattle.close_spec.specs.Lines.{allLines}
+
+-- 7 a hand waits; 18 the shoe ends before the bank's total reaches 17.
+unfoldable pub closeConditions : Table → List Condition
+closeConditions t =
+    (1, broken t)
+    ∷ (5, not (isDealt t))
+    ∷ (7, someWaits (t .options) (up t) (seatsHands t))
+    ∷ (18, mustDraw (bankAtClose t))
+    ∷ []
+
+-- The bank's score, and what goes back to a seat: for its hands and for its insurance.
+abbrev pub closeScore : Table → Score
+closeScore t = scoreOf (bankAtClose t)
+
+unfoldable pub seatBack : Options → Score → Seat → ℕ
+seatBack o bank s = sum (λ h. handPay o bank (stake s) h .back) (hands s) + insurancePay bank (insurance s) .back
+
+abbrev pub paidSeat : Options → Score → Seat → Seat
+paidSeat o bank s = makeSeat (money (purse s + seatBack o bank s) 0 0) noHands
+
+-- What lay on the layout goes to the tray, what goes back comes from it. Discards: the burnt card, hands by seat and place, the bank.
+unfoldable pub closeEffect : Table → Table
+closeEffect t =
+    makeTable (t .options) (t .tray + layout t - sum (seatBack (t .options) (closeScore t)) (t .seats))
+    (map (paidSeat (t .options) (closeScore t)) (t .seats))
+    emptyHand
+    (discard (drawn (t .shoe) (closeTakes t)) (burntAtClose t ++ handCards t ++ bankAtClose t))
+
+-- Close returns the bank's cards and the pay lines.
+unfoldable pub closeShown : Table → Shown
+closeShown t = record { bank = bankAtClose t; lines = allLines (t .options) (closeScore t) 0 (t .seats) }

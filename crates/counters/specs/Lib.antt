@@ -1,2 +1,0 @@
--- Counters for the values of a byte.
-pub mod Tally

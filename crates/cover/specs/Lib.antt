@@ -1,2 +1,0 @@
--- The cover that the tray must hold.
-pub mod Cover

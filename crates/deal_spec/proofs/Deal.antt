@@ -1,0 +1,193 @@
+-- An accepted deal keeps the table good: each staked seat has the cards that the history places behind the burn, by its rank among the staked seats.
+use mathlib.Core.Path.{_≡_, refl, sym, _∙_, ap, ap₂}
+use mathlib.Core.Bool.{true, false, cond, and-false}
+use mathlib.Core.List.{List, [], _∷_}
+use Prim.Native.Nat.{ℕ, _+_, _-_, _*_, _≤_, _<_}
+use native.Mathlib.Decide.{decLe}
+use native.Mathlib.Omega.{arith}
+use lib.Dec.{ltb, leb, eqb}
+use lib.IntN.{pos}
+use lib.ListN.{getD}
+use Rattle.lists.specs.Tests.{all}
+use lib.Seq.{getD-take, take-all}
+use borrow.Author.Tests.{ltb-false, le-leb, lt-leb, eq-eqb, ne-eqb, not-false}
+use Rattle.lists.proofs.Below.{sum-below-same, sum-below-more}
+use Rattle.call.specs.declared.Call.the-variants.{Deal}
+use Rattle.call.specs.Refusal.{first}
+use Rattle.call.proofs.Refusals.{accepted-at}
+use Rattle.cards.specs.Hand.{withCard}
+use Rattle.options.specs.declared.Options.{Options}
+use Rattle.options.specs.Facts.{InRange}
+use Rattle.rules.specs.SeatHand.{dealt, notEnded}
+use Rattle.table.specs.declared.Money.{Money}
+use Rattle.table.specs.declared.Shoe.{Shoe}
+use Rattle.table.specs.declared.Table.{Table}
+use Rattle.table.specs.Seat.{noSeat, purse, stake, insurance, isStaked, hands}
+use Rattle.table.specs.Shoe.{isFresh}
+use Rattle.table.specs.Table.{seatAt, someStaked, cardsLeft}
+use Rattle.table.specs.Money.{allCover}
+use Rattle.table.proofs.Facts.{sound-options, no-hands, no-prizes}
+use Rattle.table.specs.Shape.{Shaped}
+use Rattle.table.specs.Sound.{Sound}
+use Rattle.history.specs.Entry.{Entry, entry}
+use Rattle.history.specs.Rounds.{stakeIn, stakedBelow}
+use Rattle.history.specs.Cards.{Cards, dealBurns, callTakes, bankAfter, cardsAfter, cardsOfHistory}
+use Rattle.history.specs.Hands.{played, dealtHand, handsAfter, handsIn}
+use Rattle.history.specs.Money.{lays, wins, prizeOf, purseOf}
+use Rattle.agreement.specs.Agrees.{SeatAgrees, CardsAgree, Agrees, Good}
+use Rattle.agreement.proofs.Purse.{purse-moves}
+use Rattle.deal_spec.specs.Burn.{firstBurn, laterBurn, burnAtDeal}
+use Rattle.deal_spec.specs.Deal.{stakedSeats, burnt, dealTakes, dealtSeats, upCard, dealConditions, dealEffect}
+use Rattle.lists.proofs.Parts.{sum-first, sum-before}
+use Rattle.lists.proofs.Tests.{cond-same}
+use Rattle.deal_spec.proofs.DealtSeat.{dealt-hands}
+use Rattle.deal_spec.proofs.DealSound.{Dealable, firstPlace, secondPlace, stakedBefore, firstOf, secondOf, dealtAt, past, no-hand-yet, staked-nine, dealt-either, laid-after, prizes-after, deal-money, deal-shaped, deal-sound}
+
+-- what the conditions of an accepted deal give
+dealable : (t : Table) → t .shoe .drawn ≤ 52 * t .options .decks → first (dealConditions t) ≡ 0 → Dealable t
+unfolding dealConditions all
+dealable t within accepted =
+    let at : (k : ℕ) → getD (dealConditions t) k (0, false) .1 ≡ false = λ k. accepted-at (dealConditions t) k refl accepted in
+    record {
+      not-dealt = at 1;
+      some = not-false (someStaked t) (at 2);
+      covered = ltb-false (t .tray) (allCover t) (at 3);
+      enough = omega (arith, ltb-false (cardsLeft t) (dealTakes t) (at 5));
+    }
+
+-- the burn, as the history says it
+same-burn : (o : Options) (sh : Shoe) (c : Cards) → InRange o → isFresh sh ≡ c .fresh → burnAtDeal o sh ≡ dealBurns o c
+unfolding burnAtDeal dealBurns
+same-burn o sh c f fresh = rw fresh (ap₂ (λ (a b : ℕ). cond (c .fresh) a b) (at-first (decLe (o .first) 1)) (later (decLe (o .later) 0)))
+  where
+    at-first : Dec (o .first ≤ 1) → firstBurn o ≡ cond (eqb (o .first) 2) (o .decks) 1
+    at-first (yes h) = simp (eq-eqb (o .first) 1 (omega arith), ne-eqb (o .first) 2 (omega arith))
+    at-first (no h) = simp (ne-eqb (o .first) 1 (omega arith), eq-eqb (o .first) 2 (omega arith))
+
+    later : Dec (o .later ≤ 0) → laterBurn o ≡ cond (leb 1 (o .later)) 1 0
+    later (yes h) = simp (eq-eqb (o .later) 0 (omega arith), lt-leb 1 (o .later) (omega arith))
+    later (no h) = simp (ne-eqb (o .later) 0 (omega arith), le-leb 1 (o .later) (omega arith))
+
+module _ (opening : List ℕ) (es : List Entry) (t : Table) (order : List ℕ) (g : Good opening es t) (ok : Dealable t) where
+  abbrev e : Entry
+  e = entry Deal order
+
+  abbrev c : Cards
+  c = cardsOfHistory (t .options) opening es
+
+  abbrev one : ℕ → ℕ
+  one S = cond (ltb 0 S) 1 0
+
+  -- how many seats below a number have staked
+  before-is : (i : ℕ) → i ≤ 9 → stakedBefore t i ≡ stakedBelow es i
+  before-is i h =
+      sum-first (λ s. one (stake s)) (t .seats) i noSeat (omega (arith, g .shaped .nine-seats))
+      ∙ sum-below-same (λ k. one (stake (seatAt t k))) (λ k. one (stakeIn es k)) i (λ k l. ap one (g .agrees .seats k .stake-is))
+
+  no-stake : (i : ℕ) → t .options .seats ≤ i → stakeIn es i ≡ 0
+  no-stake i h = sym (g .agrees .seats i .stake-is) ∙ go (decLe 9 i)
+    where
+      go : Dec (9 ≤ i) → stake (seatAt t i) ≡ 0
+      go (yes l) = ap stake (past t (g .shaped) (g .sound) ok i l)
+      go (no l) = g .sound .seats i (omega arith) .beyond h .no-stake
+
+  staked-is : stakedSeats (t .seats) ≡ stakedBelow es (t .options .seats)
+  staked-is =
+      let most = sound-options t (g .sound) .seats-most in
+      let nine : t .options .seats + (9 - t .options .seats) ≡ 9 = omega arith in
+      ap stakedSeats (sym (take-all 9 (t .seats) (omega (arith, g .shaped .nine-seats))))
+      ∙ before-is 9 (omega arith)
+      ∙ ap (stakedBelow es) (sym nine)
+      ∙ sum-below-more (λ k. one (stakeIn es k)) (t .options .seats) (9 - t .options .seats) (λ i h. ap one (no-stake i h))
+
+  burn-is : burnt t ≡ dealBurns (t .options) c
+  burn-is = same-burn (t .options) (t .shoe) c (sound-options t (g .sound)) (g .agrees .cards .fresh)
+
+  -- a card of the order that the deal takes
+  card-is : (n m : ℕ) → n ≡ m → n < t .shoe .drawn + dealTakes t → getD (t .shoe .order) n 0 ≡ getD (c .order) m 0
+  card-is n m same h =
+      sym (getD-take (52 * t .options .decks) (t .shoe .order) n 0 (omega (arith, ok .enough)))
+      ∙ ap₂ (λ (xs : List ℕ) (k : ℕ). getD xs k 0) (g .agrees .cards .order) same
+
+  takes-are : dealTakes t ≡ callTakes (t .options) (stakedBelow es (t .options .seats)) c e
+  unfolding dealTakes callTakes
+  takes-are = omega (arith, burn-is, staked-is)
+
+  cards-agree : CardsAgree (cardsOfHistory (t .options) opening (e ∷ es)) (dealEffect t)
+  unfolding dealEffect cardsAfter bankAfter withCard upCard dealTakes
+  cards-agree =
+      record {
+        order = g .agrees .cards .order;
+        taken = ap₂ (λ (a b : ℕ). a + b) (g .agrees .cards .taken) takes-are;
+        fresh = ne-eqb (t .shoe .drawn + dealTakes t) 0 (λ none. omega arith);
+        bank = ap (λ (card : ℕ). card ∷ []) (card-is (firstPlace t + stakedSeats (t .seats)) (c .taken + dealBurns (t .options) c + stakedBelow es (t .options .seats)) (omega (arith, burn-is, staked-is, g .agrees .cards .taken)) (omega arith));
+      }
+
+  -- the hand of a staked seat
+  hand-is : (i : ℕ) → isStaked (seatAt t i) ≡ true → hands (dealtAt t i) ≡ handsIn (t .options) opening (e ∷ es) i
+  unfolding handsAfter dealtHand dealTakes
+  hand-is i staked =
+      let within = staked-nine t (g .shaped) (g .sound) ok i staked in
+      let below = before-is i (omega arith) in
+      let counted : one (stake (seatAt t i)) ≡ 1 = rw staked in
+      let rank : stakedBefore t i < stakedSeats (t .seats) = omega (arith, sum-before (λ s. one (stake s)) (t .seats) i noSeat (omega (arith, g .shaped .nine-seats))) in
+      let there : ltb 0 (stakeIn es i) ≡ true = ap (ltb 0) (sym (g .agrees .seats i .stake-is)) ∙ staked in
+      let first-card = card-is (firstPlace t + stakedBefore t i) (c .taken + dealBurns (t .options) c + stakedBelow es i) (omega (arith, burn-is, g .agrees .cards .taken)) (omega arith) in
+      let second-card =
+      card-is (secondPlace t + stakedBefore t i) (c .taken + dealBurns (t .options) c + stakedBelow es (t .options .seats) + 1 + stakedBelow es i)
+      (omega (arith, burn-is, staked-is, g .agrees .cards .taken)) (omega arith) in
+      rw there
+      (dealt-hands (seatAt t i) (g .shaped .seats i within .four-places) (firstOf t i) (secondOf t i)
+      ∙ ap₂ (λ (x y : ℕ). played (x ∷ y ∷ []) dealt notEnded ∷ []) first-card second-card)
+
+  no-hand-is : (i : ℕ) → isStaked (seatAt t i) ≡ false → hands (seatAt t i) ≡ handsIn (t .options) opening (e ∷ es) i
+  unfolding handsAfter
+  no-hand-is i none = let there : ltb 0 (stakeIn es i) ≡ false = ap (ltb 0) (sym (g .agrees .seats i .stake-is)) ∙ none in rw there (no-hands (seatAt t i) (no-hand-yet t (g .shaped) (g .sound) ok i))
+
+  -- money moves at no seat
+  lays-none : (i S : ℕ) → lays i S e ≡ 0
+  unfolding lays
+  lays-none i S = cond-same (eqb 0 i) 0
+
+  prize-none : (i : ℕ) → prizeOf (t .options) opening es i e ≡ 0
+  unfolding wins
+  prize-none i = simp and-false
+
+  purse-is : (i : ℕ) → pos (purse (seatAt t i)) ≡ purseOf (t .options) opening (e ∷ es) i
+  purse-is i =
+      purse-moves (t .options) opening es i e refl (purse (seatAt t i)) (purse (seatAt t i)) (g .agrees .seats i .purse-is) (omega (arith, lays-none i (stakeIn es i), prize-none i))
+
+  seat-agrees : (i : ℕ) → SeatAgrees (t .options) opening (e ∷ es) i (getD (dealtSeats t) i noSeat)
+  seat-agrees i =
+      let a = g .agrees .seats i in
+      let both =
+      dealt-either t (g .shaped) (g .sound) ok i (λ x. (x .money ≡ seatAt t i .money) × (hands x ≡ handsIn (t .options) opening (e ∷ es) i))
+      (λ staked. (refl, hand-is i staked)) (λ none. (refl, no-hand-is i none)) in
+      record {
+        stake-is = ap (λ (m : Money). m .stake) (both .0) ∙ a .stake-is;
+        insurance-is = ap (λ (m : Money). m .insurance) (both .0) ∙ a .insurance-is;
+        hands-are = both .1;
+        laid-is = omega (arith, laid-after t (g .shaped) (g .sound) ok i, a .laid-is, lays-none i (stakeIn es i));
+        prizes-are = omega (arith, prizes-after t (g .shaped) (g .sound) ok i, no-prizes (t .options) (seatAt t i) (no-hand-yet t (g .shaped) (g .sound) ok i), a .prizes-are, prize-none i);
+        purse-is = ap (λ (m : Money). pos (m .purse)) (both .0) ∙ purse-is i;
+      }
+
+  deal-agrees : Agrees opening (e ∷ es) (dealEffect t)
+  unfolding dealEffect withCard
+  deal-agrees =
+      record {
+        cards = cards-agree;
+        dealt = refl;
+        seats = seat-agrees;
+        balance = omega (arith, deal-money t (g .shaped) (g .sound) ok, g .agrees .balance);
+      }
+
+pub deal-kept : (t : Table) → Shaped t → Sound t → first (dealConditions t) ≡ 0 → Shaped (dealEffect t) × Sound (dealEffect t)
+deal-kept t shaped sound accepted =
+    let ok = dealable t (sound .drawn) accepted in
+    (deal-shaped t shaped sound ok, deal-sound t shaped sound ok)
+
+pub deal-good : (opening : List ℕ) (es : List Entry) (t : Table) (order : List ℕ) → Good opening es t → first (dealConditions t) ≡ 0 → Good opening (entry Deal order ∷ es) (dealEffect t)
+deal-good opening es t order g accepted =
+    let kept = deal-kept t (g .shaped) (g .sound) accepted in
+    record { shaped = kept .0; sound = kept .1; agrees = deal-agrees opening es t order g (dealable t (g .sound .drawn) accepted) }

@@ -1,0 +1,305 @@
+-- The table after an accepted deal is sound: each staked seat has one hand of two cards, the bank one card, and the burnt cards are discards.
+use mathlib.Core.Path.{_≡_, refl, sym, _∙_, ap}
+use mathlib.Core.Bool.{Bool, true, false, cond, true≢false}
+use mathlib.Core.List.{List, _++_}
+use Prim.Native.Nat.{ℕ, suc, _+_, _*_, _≤_, _<_}
+use native.Mathlib.Decide.{decLe}
+use native.Mathlib.Omega.{arith}
+use lib.Dec.{ltb}
+use lib.ListN.{length, take, drop, getD, length-take, length-drop, List·getD-eq-default}
+use lib.Seq.{take-add, length-sets}
+use borrow.Author.Tests.{ltb-true, ltb-false}
+use Rattle.lists.specs.Sum.{sum, isIt}
+use Rattle.lists.specs.Tests.{any}
+use Rattle.lists.specs.Flat.{flat}
+use Rattle.lists.proofs.Sums.{sum-append, sum-none, sum-ones, sum-take}
+use Rattle.cards.specs.Card.{isAce}
+use Rattle.cards.specs.Hand.{withCard}
+use Rattle.table.specs.declared.Money.{Money}
+use Rattle.table.specs.declared.Seat.{Seat}
+use Rattle.table.specs.declared.Table.{Table}
+use Rattle.table.specs.Seat.{noSeat, purse, stake, insurance, isStaked, laid, prizes, seatCards}
+use Rattle.table.specs.Table.{seatAt, isDealt, up, someStaked, bankCards, tableDrawn, tableShoe, tableDiscards}
+use Rattle.table.specs.Money.{allMoney, allCover}
+use Rattle.table.specs.Faces.{outCards}
+use Rattle.table.specs.Shape.{Shaped, ShapedSeat}
+use Rattle.table.specs.Sound.{Sound, SoundSeat}
+use Rattle.table.proofs.Facts.{sound-options, decks-416, room-discards, laid-stake, no-prizes, no-hands}
+use Rattle.table.proofs.SeatChange.{sum-out}
+use Rattle.deal_spec.specs.Pass.{pass, firstCard, secondCard}
+use Rattle.deal_spec.specs.Deal.{stakedSeats, burnt, dealTakes, dealtSeats, upCard, dealEffect}
+use Rattle.lists.proofs.Parts.{any-map, part-of-take, sum-places, sum-more}
+use Rattle.lists.proofs.Stores.{sets-taken}
+use Rattle.deal_spec.proofs.Pass.{pass-view, pass-length, pass-money, pass-either, pass-staked, pass-cards}
+use Rattle.deal_spec.proofs.DealtSeat.{dealtSeat, both-cards, first-cards, second-cards, dealt-laid, dealt-prizes, dealt-shaped, dealt-sound}
+
+-- what an accepted deal knows beside a sound table
+pub record Dealable (t : Table) : Type 0 where
+  pub not-dealt : isDealt t ≡ false
+  pub some : someStaked t ≡ true
+  pub covered : allCover t ≤ t .tray
+  pub enough : t .shoe .drawn + dealTakes t ≤ 52 * t .options .decks
+
+-- the places of the order: the first pass, the second, and how many staked seats are below a seat
+abbrev pub firstPlace : Table → ℕ
+firstPlace t = t .shoe .drawn + burnt t
+
+abbrev pub secondPlace : Table → ℕ
+secondPlace t = t .shoe .drawn + burnt t + stakedSeats (t .seats) + 1
+
+abbrev pub stakedBefore : Table → ℕ → ℕ
+stakedBefore t i = stakedSeats (take i (t .seats))
+
+-- the two cards of the seat of a number, had it a stake, and that seat
+abbrev pub firstOf : Table → ℕ → ℕ
+firstOf t i = getD (t .shoe .order) (firstPlace t + stakedBefore t i) 0
+
+abbrev pub secondOf : Table → ℕ → ℕ
+secondOf t i = getD (t .shoe .order) (secondPlace t + stakedBefore t i) 0
+
+abbrev pub dealtAt : Table → ℕ → Seat
+dealtAt t i = dealtSeat (seatAt t i) (firstOf t i) (secondOf t i)
+
+-- b + 2 S + 1 cards from place d of an order whose first K are in the shoe: b, then S, one and S
+four-parts : (w : ℕ → ℕ) (order : List ℕ) (d b S K : ℕ) → d + (b + 2 * S + 1) ≤ K → K ≤ length order
+    → sum w (take (b + 2 * S + 1) (drop d (take K order)))
+    ≡ sum w (take b (drop d (take K order))) + sum w (take S (drop (d + b) order)) + w (getD order (d + b + S) 0) + sum w (take S (drop (d + b + S + 1) order))
+four-parts w order d b S K room full =
+    let one : d + b + S + 1 ≡ suc (d + b + S) = omega arith in
+    let end : d + (b + 2 * S + 1) ≡ d + b + S + 1 + S = omega arith in
+    omega (
+      arith,
+      ap (sum w) (part-of-take (b + 2 * S + 1) d K order room),
+      ap (sum w) (part-of-take b d K order (omega arith)),
+      sum-more w order d (b + 2 * S + 1),
+      sum-more w order d b,
+      sum-more w order (d + b) S,
+      sum-take w order (d + b + S) 0 (omega arith),
+      ap (λ (n : ℕ). sum w (take n order)) one,
+      sum-more w order (d + b + S + 1) S,
+      ap (λ (n : ℕ). sum w (take n order)) end,
+    )
+
+-- a seat without hands has no cards
+no-cards : (s : Seat) → s .hands .many ≡ 0 → (w : ℕ → ℕ) → sum w (seatCards s) ≡ 0
+unfolding flat sum
+no-cards s none w = rw (no-hands s none)
+
+module _ (t : Table) (shaped : Shaped t) (sound : Sound t) (ok : Dealable t) where
+  -- a number past the table's seats has none
+  pub past : (i : ℕ) → 9 ≤ i → seatAt t i ≡ noSeat
+  past i h = List·getD-eq-default (t .seats) noSeat {n = i} (omega arith)
+
+  -- before the deal no seat has a hand or an insurance
+  pub no-hand-yet : (i : ℕ) → seatAt t i .hands .many ≡ 0
+  no-hand-yet i = go (decLe 9 i) (decLe (seatAt t i .hands .many) 0)
+    where
+      go : Dec (9 ≤ i) → Dec (seatAt t i .hands .many ≤ 0) → seatAt t i .hands .many ≡ 0
+      go (yes h) d = rw (past i h)
+      go (no h) (yes none) = omega arith
+      go (no h) (no some) = absurd (true≢false (sym (sound .seats i (omega arith) .playing (omega arith) .in-round) ∙ ok .not-dealt))
+
+  pub no-insurance-yet : (i : ℕ) → insurance (seatAt t i) ≡ 0
+  no-insurance-yet i = go (decLe 9 i) (decLe (insurance (seatAt t i)) 0)
+    where
+      go : Dec (9 ≤ i) → Dec (insurance (seatAt t i) ≤ 0) → insurance (seatAt t i) ≡ 0
+      go (yes h) d = rw (past i h)
+      go (no h) (yes none) = omega arith
+      go (no h) (no some) = absurd (true≢false (sym (sound .seats i (omega arith) .insured (omega arith) .in-round) ∙ ok .not-dealt))
+
+  -- a staked seat is one of the nine
+  pub staked-nine : (i : ℕ) → isStaked (seatAt t i) ≡ true → i < 9
+  staked-nine i staked = go (decLe 9 i)
+    where
+      go : Dec (9 ≤ i) → i < 9
+      go (yes h) = absurd (true≢false (sym staked ∙ ap isStaked (past i h)))
+      go (no h) = omega arith
+
+  four : (i : ℕ) → isStaked (seatAt t i) ≡ true → length (seatAt t i .hands .places) ≡ 4
+  four i staked = shaped .seats i (staked-nine i staked) .four-places
+
+  -- the seats after the first pass
+  abbrev once : List Seat
+  once = pass firstCard (t .shoe .order) (firstPlace t) (t .seats)
+
+  once-staked : (i : ℕ) → stakedSeats (take i once) ≡ stakedBefore t i
+  once-staked i = pass-staked firstCard (t .shoe .order) (λ s card. refl) (firstPlace t) (t .seats) i
+
+  -- what holds of a seat after both, staked or not
+  pub dealt-either : (i : ℕ) (P : Seat → Type 0) → (isStaked (seatAt t i) ≡ true → P (dealtAt t i)) → (isStaked (seatAt t i) ≡ false → P (seatAt t i)) → P (getD (dealtSeats t) i noSeat)
+  unfolding dealtSeats
+  dealt-either i P given idle =
+      let both =
+      pass-either firstCard (t .shoe .order) (firstPlace t) (t .seats) i
+      (λ x. (isStaked x ≡ true → P (secondCard x (secondOf t i))) × (isStaked x ≡ false → P x))
+      (λ staked. (λ still. rw (both-cards (seatAt t i) (four i staked) (firstOf t i) (secondOf t i)) (given staked), λ none. absurd (true≢false (sym staked ∙ none))))
+      (λ none. (λ staked. absurd (true≢false (sym staked ∙ none)), λ still. idle none)) in
+      pass-either secondCard (t .shoe .order) (secondPlace t) once i P
+      (rw (once-staked i) (both .0)) (both .1)
+
+  -- each seat's money stays
+  over-money : (f : Money → ℕ) → sum (λ s. f (s .money)) (dealtSeats t) ≡ sum (λ s. f (s .money)) (t .seats)
+  unfolding dealtSeats
+  over-money f =
+      pass-money secondCard (t .shoe .order) (λ s card. refl) f (secondPlace t) once
+      ∙ pass-money firstCard (t .shoe .order) (λ s card. refl) f (firstPlace t) (t .seats)
+
+  some-staked : any isStaked (dealtSeats t) ≡ any isStaked (t .seats)
+  unfolding dealtSeats
+  some-staked =
+      sym (any-map (λ b. b) isStaked (dealtSeats t))
+      ∙ ap (any (λ b. b)) (pass-view secondCard (t .shoe .order) isStaked (λ s card. refl) (secondPlace t) once ∙ pass-view firstCard (t .shoe .order) isStaked (λ s card. refl) (firstPlace t) (t .seats))
+      ∙ any-map (λ b. b) isStaked (t .seats)
+
+  as-many : length (dealtSeats t) ≡ length (t .seats)
+  unfolding dealtSeats
+  as-many = pass-length secondCard (t .shoe .order) (secondPlace t) once ∙ pass-length firstCard (t .shoe .order) (firstPlace t) (t .seats)
+
+  -- what a seat laid is its stake, before the deal and after it
+  laid-before : (i : ℕ) → laid (seatAt t i) ≡ stake (seatAt t i)
+  laid-before i = laid-stake (seatAt t i) (no-hand-yet i)
+
+  pub laid-after : (i : ℕ) → laid (getD (dealtSeats t) i noSeat) ≡ laid (seatAt t i)
+  laid-after i =
+      dealt-either i (λ x. laid x ≡ laid (seatAt t i))
+      (λ staked. omega (arith, dealt-laid (seatAt t i) (four i staked) (firstOf t i) (secondOf t i), laid-before i, no-insurance-yet i))
+      (λ none. refl)
+
+  pub prizes-after : (i : ℕ) → prizes (t .options) (getD (dealtSeats t) i noSeat) ≡ 0
+  prizes-after i =
+      dealt-either i (λ x. prizes (t .options) x ≡ 0)
+      (λ staked. dealt-prizes (seatAt t i) (four i staked) (firstOf t i) (secondOf t i) (t .options))
+      (λ none. no-prizes (t .options) (seatAt t i) (no-hand-yet i))
+
+  over-laid : sum laid (dealtSeats t) ≡ sum laid (t .seats)
+  over-laid = sum-places laid (dealtSeats t) (t .seats) noSeat as-many (λ i h. laid-after i)
+
+  pub deal-money : allMoney (dealEffect t) ≡ allMoney t
+  unfolding dealEffect
+  deal-money = omega (arith, over-laid, over-money (λ m. m .purse))
+
+  -- the cards of the seats, whatever is summed over them
+  order-length : length (t .shoe .order) ≡ 416
+  order-length = shaped .order
+
+  all-places : t .shoe .drawn + (burnt t + 2 * stakedSeats (t .seats) + 1) ≤ 416
+  unfolding dealTakes
+  all-places = omega (arith, ok .enough, decks-416 t sound)
+
+  first-given : (w : ℕ → ℕ) → sum (λ x. sum w (seatCards x)) once ≡ sum (λ x. sum w (seatCards x)) (t .seats) + sum w (take (stakedSeats (t .seats)) (drop (firstPlace t) (t .shoe .order)))
+  first-given w =
+      pass-cards firstCard (t .shoe .order) (λ x. sum w (seatCards x)) w (firstPlace t) (t .seats) (omega (arith, all-places, order-length))
+      (λ i staked card. omega (arith, first-cards (seatAt t i) (four i staked) card 0 w, no-cards (seatAt t i) (no-hand-yet i) w))
+
+  second-given : (w : ℕ → ℕ) → sum (λ x. sum w (seatCards x)) (dealtSeats t) ≡ sum (λ x. sum w (seatCards x)) once + sum w (take (stakedSeats (t .seats)) (drop (secondPlace t) (t .shoe .order)))
+  unfolding dealtSeats
+  second-given w =
+      let as-staked = pass-money firstCard (t .shoe .order) (λ s card. refl) (λ m. cond (ltb 0 (m .stake)) 1 0) (firstPlace t) (t .seats) in
+      rw as-staked at
+      (pass-cards secondCard (t .shoe .order) (λ x. sum w (seatCards x)) w (secondPlace t) once (omega (arith, all-places, order-length, as-staked))
+      (λ i. pass-either firstCard (t .shoe .order) (firstPlace t) (t .seats) i
+      (λ x. isStaked x ≡ true → (card : ℕ) → sum w (seatCards (secondCard x card)) ≡ sum w (seatCards x) + w card)
+      (λ staked still card. second-cards (seatAt t i) (four i staked) (firstOf t i) card w)
+      (λ none staked. absurd (true≢false (sym staked ∙ none)))))
+
+  -- the bank has no card yet
+  no-bank-yet : (w : ℕ → ℕ) → sum w (bankCards t) ≡ 0
+  no-bank-yet w = sum-none w (bankCards t) 0 (λ i h. absurd (omega (arith, ltb-false 0 (length (bankCards t)) (ok .not-dealt))))
+
+  -- the burnt cards
+  abbrev burntCards : List ℕ
+  burntCards = take (burnt t) (tableShoe t)
+
+  shoe-takes : (k : ℕ) → t .shoe .drawn + k ≤ 52 * t .options .decks → length (take k (tableShoe t)) ≡ k
+  shoe-takes k room = simp (length-take, length-drop, shaped .order) (omega (arith, decks-416 t sound))
+
+  burnt-many : length burntCards ≡ burnt t
+  unfolding dealTakes
+  burnt-many = shoe-takes (burnt t) (omega (arith, ok .enough))
+
+  burnt-room : t .shoe .discarded + length burntCards ≤ 416
+  burnt-room = omega (arith, all-places, burnt-many, room-discards t (shaped .discards) sound)
+
+  discards-after : tableDiscards (dealEffect t) ≡ tableDiscards t ++ burntCards
+  unfolding dealEffect
+  discards-after = sets-taken (t .shoe .discards) (t .shoe .discarded) burntCards (omega (arith, burnt-room, shaped .discards))
+
+  -- what the deal takes of the shoe, in its order: the burnt cards, the first pass, the bank's card and the second pass
+  taken-parts : (w : ℕ → ℕ)
+      → sum w (take (dealTakes t) (tableShoe t))
+      ≡ sum w burntCards + sum w (take (stakedSeats (t .seats)) (drop (firstPlace t) (t .shoe .order))) + w (upCard t) + sum w (take (stakedSeats (t .seats)) (drop (secondPlace t) (t .shoe .order)))
+  unfolding dealTakes upCard
+  taken-parts w = four-parts w (t .shoe .order) (t .shoe .drawn) (burnt t) (stakedSeats (t .seats)) (52 * t .options .decks) (ok .enough) (omega (arith, decks-416 t sound, order-length))
+
+  out-cards : (w : ℕ → ℕ) → sum w (outCards (dealEffect t)) ≡ sum w (outCards t) + sum w (take (dealTakes t) (tableShoe t))
+  unfolding dealEffect withCard sum
+  out-cards w =
+      omega (
+        arith,
+        sum-out (dealEffect t) w,
+        sum-out t w,
+        ap (sum w) discards-after,
+        sum-append w (tableDiscards t) burntCards,
+        first-given w,
+        second-given w,
+        no-bank-yet w,
+        taken-parts w,
+      )
+
+  drawn-cards : (w : ℕ → ℕ) → sum w (tableDrawn (dealEffect t)) ≡ sum w (tableDrawn t) + sum w (take (dealTakes t) (tableShoe t))
+  unfolding dealEffect
+  drawn-cards w = rw (take-add, sum-append)
+
+  seat-shaped : (i : ℕ) → i < 9 → ShapedSeat (getD (dealtSeats t) i noSeat)
+  seat-shaped i h =
+      dealt-either i ShapedSeat
+      (λ staked. dealt-shaped (seatAt t i) (four i staked) (firstOf t i) (secondOf t i) (shaped .seats i h))
+      (λ none. shaped .seats i h)
+
+  pub deal-shaped : Shaped (dealEffect t)
+  unfolding dealEffect withCard
+  deal-shaped = record {
+    nine-seats = as-many ∙ shaped .nine-seats;
+    seats = seat-shaped;
+    bank = refl;
+    order = shaped .order;
+    discards = length-sets (t .shoe .discards) (t .shoe .discarded) burntCards ∙ shaped .discards;
+  }
+
+  -- a seat without a stake has no hand, and stays sound
+  idle-sound : (i : ℕ) (ace : Bool) → i < 9 → isStaked (seatAt t i) ≡ false → SoundSeat (t .options) true ace i (seatAt t i)
+  idle-sound i ace h none =
+      let f = sound .seats i h in
+      record {
+        beyond = f .beyond;
+        stake-fits = f .stake-fits;
+        insured = λ some. absurd (omega (arith, no-insurance-yet i));
+        waiting = λ empty dealt. omega (arith, ltb-false 0 (stake (seatAt t i)) none);
+        playing = λ some. absurd (omega (arith, no-hand-yet i));
+        prizes-back = f .prizes-back;
+      }
+
+  seat-sound : (i : ℕ) (ace : Bool) → i < 9 → SoundSeat (t .options) true ace i (getD (dealtSeats t) i noSeat)
+  seat-sound i ace h =
+      dealt-either i (SoundSeat (t .options) true ace i)
+      (λ staked.
+      dealt-sound (seatAt t i) (four i staked) (firstOf t i) (secondOf t i)
+      (t .options) (isAce (up t)) ace i (sound-options t sound .hands-least) (ltb-true 0 (stake (seatAt t i)) staked)
+      (rw (ok .not-dealt) at (sound .seats i h)))
+      (idle-sound i ace h)
+
+  pub deal-sound : Sound (dealEffect t)
+  unfolding dealEffect withCard
+  deal-sound = record {
+    options = sound .options;
+    valid = sound .valid;
+    drawn = ok .enough;
+    discarded = burnt-room;
+    faces = λ b h. omega (arith, out-cards (isIt b), drawn-cards (isIt b), sound .faces b h);
+    number = omega (arith, out-cards (λ x. 1), shoe-takes (dealTakes t) (ok .enough), sum-ones (outCards (dealEffect t)), sum-ones (outCards t), sum-ones (take (dealTakes t) (tableShoe t)), sound .number);
+    seats = λ i h. seat-sound i (isAce (upCard t)) h;
+    bank = omega arith;
+    round = λ dealt. some-staked ∙ ok .some;
+    money = omega (arith, deal-money, sound .money);
+    cover = λ dealt. omega (arith, over-money (λ m. 20 * m .stake), ok .covered);
+  }

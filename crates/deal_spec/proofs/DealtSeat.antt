@@ -1,0 +1,95 @@
+-- A staked seat after both passes: one hand of the two cards, not ended, with the stake as its wager and no prize.
+use mathlib.Core.Path.{_≡_, refl, sym, _∙_, ap}
+use mathlib.Core.Bool.{Bool, true, false, and-false, true≢false}
+use mathlib.Core.List.{[], _∷_, map}
+use Prim.Native.Nat.{ℕ, _+_, _≤_, _<_}
+use native.Mathlib.Omega.{arith}
+use lib.ListN.{length, length-set}
+use lib.Seq.{getD-set-same, set-set, take-suc-set}
+use Rattle.lists.specs.Sum.{sum}
+use Rattle.lists.specs.Flat.{flat}
+use Rattle.lists.proofs.Places.{holds-set}
+use Rattle.cards.specs.Hand.{emptyHand, withCard}
+use Rattle.cards.specs.Length.{couldBePlayed}
+use Rattle.cards.specs.PrizeHand.{isPrizeHand}
+use Rattle.options.specs.declared.Options.{Options}
+use Rattle.rules.specs.declared.seat_hand.SeatHand.{SeatHand}
+use Rattle.rules.specs.SeatHand.{playedOf, dealt, notEnded}
+use Rattle.payment.specs.Wager.{wager}
+use Rattle.payment.specs.Prize.{prize}
+use Rattle.table.specs.declared.Seat.{Seat}
+use Rattle.table.specs.Seat.{noPlace, stake, insurance, hands, seatCards, laid, prizes}
+use Rattle.table.specs.Shape.{ShapedSeat}
+use Rattle.table.specs.Sound.{SoundSeat, SoundHand}
+use Rattle.history.specs.Hands.{played}
+use Rattle.deal_spec.specs.Pass.{withOnly, firstCard, secondCard}
+
+-- the hand, and the seat with it
+abbrev pub twoCards : ℕ → ℕ → SeatHand
+twoCards a b = record { hand = withCard (withCard emptyHand a) b; origin = dealt; ended = notEnded }
+
+abbrev pub dealtSeat : Seat → ℕ → ℕ → Seat
+dealtSeat s a b = withOnly s (twoCards a b)
+
+-- a seat's hand where it has but one
+only-hand : (s : Seat) (h : SeatHand) → length (s .hands .places) ≡ 4 → hands (withOnly s h) ≡ playedOf h ∷ []
+only-hand s h four = ap (map playedOf) (take-suc-set (s .hands .places) 0 h (omega arith))
+
+module _ (s : Seat) (four : length (s .hands .places) ≡ 4) (a b : ℕ) where
+  -- the second card goes to the first one's hand
+  pub both-cards : secondCard (firstCard s a) b ≡ dealtSeat s a b
+  both-cards =
+      let opened : SeatHand = record { hand = withCard emptyHand a; origin = dealt; ended = notEnded } in
+      rw (getD-set-same (s .hands .places) 0 opened noPlace (omega arith), set-set)
+
+  pub dealt-hands : hands (dealtSeat s a b) ≡ played (a ∷ b ∷ []) dealt notEnded ∷ []
+  unfolding withCard
+  dealt-hands = only-hand s (twoCards a b) four
+
+  pub first-cards : (w : ℕ → ℕ) → sum w (seatCards (firstCard s a)) ≡ w a
+  unfolding withCard flat sum
+  first-cards w = rw (only-hand s (record { hand = withCard emptyHand a; origin = dealt; ended = notEnded }) four) (omega arith)
+
+  dealt-cards : (w : ℕ → ℕ) → sum w (seatCards (dealtSeat s a b)) ≡ w a + w b
+  unfolding flat sum
+  dealt-cards w = rw dealt-hands (omega arith)
+
+  pub second-cards : (w : ℕ → ℕ) → sum w (seatCards (secondCard (firstCard s a) b)) ≡ sum w (seatCards (firstCard s a)) + w b
+  second-cards w = omega (arith, ap (λ (x : Seat). sum w (seatCards x)) both-cards, dealt-cards w, first-cards w)
+
+  pub dealt-laid : laid (dealtSeat s a b) ≡ stake s + insurance s
+  unfolding laid sum wager
+  dealt-laid = rw dealt-hands (omega arith)
+
+  pub dealt-prizes : (o : Options) → prizes o (dealtSeat s a b) ≡ 0
+  unfolding prizes sum prize isPrizeHand
+  dealt-prizes o = rw dealt-hands (simp and-false)
+
+  dealt-hand : SoundHand (twoCards a b)
+  unfolding withCard couldBePlayed
+  dealt-hand = record { two-cards = omega arith; twenty-cards = omega arith; played = refl; origin = omega arith; ended = omega arith }
+
+  pub dealt-shaped : ShapedSeat s → ShapedSeat (dealtSeat s a b)
+  unfolding withCard
+  dealt-shaped shaped =
+      record {
+        four-places = length-set (s .hands .places) 0 (twoCards a b) ∙ four;
+        twenty-cards = λ p h. holds-set (λ n x. length (x .hand .cards) ≡ 20) (s .hands .places) 0 p (twoCards a b) noPlace (omega arith) refl (shaped .twenty-cards p h);
+      }
+
+  -- sound, where it was sound before the deal
+  pub dealt-sound : (o : Options) (ace-before ace : Bool) (i : ℕ) → 2 ≤ o .hands → 0 < stake s → SoundSeat o false ace-before i s → SoundSeat o true ace i (dealtSeat s a b)
+  dealt-sound o ace-before ace i many staked f =
+      record {
+        beyond = λ h. absurd (omega (arith, f .beyond h .no-stake));
+        stake-fits = f .stake-fits;
+        insured = λ h. absurd (true≢false (sym (f .insured h .in-round)));
+        waiting = λ none. absurd (omega arith);
+        playing = λ h. record {
+          in-round = refl;
+          staked = staked;
+          within = omega arith;
+          each = λ p l k. let here : p ≡ 0 = omega arith in rw (here, getD-set-same (s .hands .places) 0 (twoCards a b) noPlace (omega arith)) dealt-hand;
+        };
+        prizes-back = omega (arith, dealt-prizes o);
+      }

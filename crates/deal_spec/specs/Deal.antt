@@ -1,0 +1,54 @@
+-- deal: burns into the discards, then from the lowest seat one card to each staked seat, one to the bank (the up card), a second to each seat.
+use mathlib.Core.Bool.{cond, not}
+use mathlib.Core.List.{List, [], _∷_}
+use Prim.Native.Nat.{ℕ, _+_, _*_}
+use lib.Dec.{leb, ltb}
+use lib.ListN.{getD, take}
+use Rattle.lists.specs.Sum.{sum}
+use Rattle.call.specs.Refusal.{Condition}
+use Rattle.cards.specs.Hand.{emptyHand, withCard}
+use Rattle.table.specs.declared.Seat.{Seat}
+use Rattle.table.specs.declared.Table.{Table}
+use Rattle.table.specs.Seat.{isStaked}
+use Rattle.table.specs.Shoe.{drawn, discard}
+use Rattle.table.specs.Table.{makeTable, isDealt, someStaked, tableShoe, cardsLeft}
+use Rattle.table.specs.Money.{allCover}
+use Rattle.table.specs.Broken.{broken}
+use Rattle.deal_spec.specs.Burn.{burnAtDeal}
+use Rattle.deal_spec.specs.Pass.{firstCard, secondCard, pass}
+
+-- How many seats have a stake.
+abbrev pub stakedSeats : List Seat → ℕ
+stakedSeats seats = sum (λ s. cond (isStaked s) 1 0) seats
+
+-- How many cards a deal burns and takes.
+abbrev pub burnt : Table → ℕ
+burnt t = burnAtDeal (t .options) (t .shoe)
+
+unfoldable pub dealTakes : Table → ℕ
+dealTakes t = burnt t + 2 * stakedSeats (t .seats) + 1
+
+unfoldable pub dealConditions : Table → List Condition
+dealConditions t =
+    (1, broken t)
+    ∷ (4, isDealt t)
+    ∷ (6, not (someStaked t))
+    ∷ (16, ltb (t .tray) (allCover t))
+    ∷ (17, leb (cardsLeft t) (t .options .cut))
+    ∷ (17, ltb (cardsLeft t) (dealTakes t))
+    ∷ []
+
+-- The seats after both passes: the bank's card lies between them.
+unfoldable pub dealtSeats : Table → List Seat
+dealtSeats t =
+    pass secondCard (t .shoe .order) (t .shoe .drawn + burnt t + stakedSeats (t .seats) + 1)
+    (pass firstCard (t .shoe .order) (t .shoe .drawn + burnt t) (t .seats))
+
+-- The up card: the one behind the first pass.
+unfoldable pub upCard : Table → ℕ
+upCard t = getD (t .shoe .order) (t .shoe .drawn + burnt t + stakedSeats (t .seats)) 0
+
+unfoldable pub dealEffect : Table → Table
+dealEffect t =
+    makeTable (t .options) (t .tray) (dealtSeats t) (withCard emptyHand (upCard t))
+    (drawn (discard (t .shoe) (take (burnt t) (tableShoe t))) (dealTakes t))

@@ -1,0 +1,230 @@
+-- A decision that gives the hand whose turn it is the next card: draw and double. The hand was below 21, so it has room and was no prize hand.
+use mathlib.Core.Path.{_≡_, refl, sym, _∙_, ap}
+use mathlib.Core.Bool.{true, false, not, _&&_, _||_, and-eq-true-iff}
+use mathlib.Core.List.{List, [], _∷_, _++_}
+use Prim.Native.Nat.{ℕ, _+_, _-_, _*_, _≤_, _<_}
+use native.Mathlib.Omega.{arith}
+use lib.Dec.{ltb, eqb}
+use lib.ListN.{length, getD, set, length-take}
+use borrow.Author.Tests.{ltb-true, ltb-false, eq-eqb, not-false}
+use Rattle.lists.specs.Sum.{sum}
+use Rattle.lists.specs.Tests.{all}
+use Rattle.lists.proofs.Sums.{sum-snoc, sum-one}
+use Rattle.cards.specs.Hand.{cardsOf, withCard}
+use Rattle.cards.specs.Total.{total}
+use Rattle.cards.proofs.hand.WithCard.{with-card-cards, with-card-count, with-card-full}
+use Rattle.cards.proofs.total.Bounds.{room-below-21, played-more}
+use Rattle.cards.proofs.prize.PrizeTotal.{no-prize-below-21}
+use Rattle.rules.specs.declared.seat_hand.SeatHand.{SeatHand}
+use Rattle.rules.specs.SeatHand.{Played, playedOf, splitAces, notEnded, byDouble, hasTwoCards}
+use Rattle.rules.specs.Turn.{waitingPlace}
+use Rattle.rules.specs.Waits.{waits}
+use Rattle.rules.specs.Permits.{takesCards, permitsDraw, permitsDouble}
+use Rattle.payment.specs.Wager.{wager}
+use Rattle.payment.specs.Prize.{prize}
+use Rattle.payment.proofs.stake.Bounds.{wager-single, wager-double, prize-none, prize-same, prize-most}
+use Rattle.call.specs.declared.At.{At}
+use Rattle.call.specs.declared.Call.the-variants.{Draw, Double}
+use Rattle.call.specs.Refusal.{first}
+use Rattle.call.proofs.Refusals.{accepted-at}
+use Rattle.history.specs.Entry.{Entry, entry, isInsure, isDraw, isDouble}
+use Rattle.history.specs.Cards.{Cards, callTakes}
+use Rattle.history.specs.Hands.{played, noHand, nextCard, grown, ended, decide}
+use Rattle.history.specs.Money.{lays, wins}
+use Rattle.table.specs.declared.Money.{Money}
+use Rattle.table.specs.declared.Table.{Table}
+use Rattle.table.specs.Seat.{money, purse, stake, insurance, hands}
+use Rattle.table.specs.Shoe.{drawn}
+use Rattle.table.specs.Table.{seatAt, up, tableOrder, cardsLeft}
+use Rattle.table.specs.Shape.{Shaped}
+use Rattle.table.specs.Sound.{Sound, SoundHand}
+use Rattle.table.proofs.SeatHands.{with-hand, hand-is}
+use Rattle.table.proofs.NextCards.{card-at, next-one}
+use Rattle.table.proofs.Cover.{tray-covers}
+use Rattle.agreement.specs.Agrees.{CardsAgree}
+use Rattle.decision_spec.specs.Round.{roundConditions}
+use Rattle.decision_spec.specs.Turn.{turnConditions, turnPlace, turnHand, mayTake}
+use Rattle.decision_spec.specs.Card.{cardAhead, grownHand, cardEffect}
+use Rattle.decision_spec.specs.Draw.{drawConditions, drawEffect}
+use Rattle.decision_spec.specs.Double.{doubleConditions, doubleEffect}
+use Rattle.decision_spec.proofs.OneCall.{Guest, of-seat, draws-some, Decision}
+use Rattle.decision_spec.proofs.Accepted.{Waiting, nine, in-turn}
+use Rattle.decision_spec.proofs.OneHand.{HandCall, one-hand}
+
+-- the history's next cards are the table's
+pub next-card : (t : Table) (c : Cards) (n : ℕ) → CardsAgree c t → t .shoe .drawn + n < 52 * t .options .decks → nextCard c n ≡ cardAhead t n
+next-card t c n agree left =
+    ap (λ (xs : List ℕ). getD xs (c .taken + n) 0) (sym (agree .order))
+    ∙ ap (λ (k : ℕ). getD (tableOrder t) (k + n) 0) (sym (agree .taken))
+    ∙ card-at t (t .shoe .drawn + n) left
+
+-- what the history makes of the call
+record Growing (t : Table) (e : Entry) (j more code : ℕ) : Type 0 where
+  guest : Guest e j
+  no-insure : isInsure e ≡ false
+  gives : isDraw e || isDouble e ≡ true
+  takes : (staked : ℕ) (c : Cards) → callTakes (t .options) staked c e ≡ 1
+  decides : (c : Cards) (h : Played) → getD (hands (seatAt t j)) (turnPlace t j) noHand ≡ h → h .ended ≡ notEnded
+      → decide (hands (seatAt t j)) (turnPlace t j) c e ≡ set (hands (seatAt t j)) (turnPlace t j) (played (h .cards ++ (nextCard c 0 ∷ [])) (h .origin) code)
+  lays-it : lays j (stake (seatAt t j)) e ≡ more
+  in-code : code ≤ 5
+  wager-is : (h : Played) → h .ended ≡ code → wager (stake (seatAt t j)) h ≡ stake (seatAt t j) + more
+
+-- what its conditions give
+record Allowed (t : Table) (j more : ℕ) : Type 0 where
+  below : total (cardsOf (turnHand t j .hand)) < 21
+  purse-has : more ≤ purse (seatAt t j)
+  left : 1 ≤ cardsLeft t
+
+-- a hand below 21 with the next card
+module _ (h : SeatHand) (card code : ℕ) (full : length (h .hand .cards) ≡ 20) (sound : SoundHand h) (below : total (cardsOf (h .hand)) < 21) where
+  room : h .hand .count < 20
+  room = omega (arith, room-below-21 (cardsOf (h .hand)) (sound .played) (omega (arith, length-take (h .hand .count) (h .hand .cards))) below, length-take (h .hand .count) (h .hand .cards))
+
+  more-cards : cardsOf (withCard (h .hand) card) ≡ cardsOf (h .hand) ++ (card ∷ [])
+  more-cards = with-card-cards (h .hand) card full room
+
+  more-sound : code ≤ 5 → SoundHand (record { hand = withCard (h .hand) card; origin = h .origin; ended = code })
+  more-sound in-code =
+      record {
+        two-cards = omega (arith, with-card-count (h .hand) card room, sound .two-cards);
+        twenty-cards = omega (arith, with-card-count (h .hand) card room, room);
+        played = rw more-cards (played-more (cardsOf (h .hand)) card (sound .played) below);
+        origin = sound .origin;
+        ended = in-code;
+      }
+
+  more-full : length (withCard (h .hand) card .cards) ≡ 20
+  more-full = with-card-full (h .hand) card full room
+
+module _ (t : Table) (e : Entry) (j more code : ℕ) (shaped : Shaped t) (sound : Sound t) (w : Waiting t j (turnPlace t j)) (g : Growing t e j more code) (a : Allowed t j more) where
+  abbrev won : ℕ
+  won = prize (t .options) (stake (seatAt t j)) (playedOf (grownHand t j code))
+
+  abbrev new-money : Money
+  new-money = money (purse (seatAt t j) - more + won) (stake (seatAt t j)) (insurance (seatAt t j))
+
+  full : length (turnHand t j .hand .cards) ≡ 20
+  full = w .seat .shaped .twenty-cards (turnPlace t j) (omega arith)
+
+  was : SoundHand (turnHand t j)
+  was = w .seat .playing .each (turnPlace t j) (w .here) (omega (arith, w .here, w .seat .few, w .seat .shaped .four-places))
+
+  cards : cardsOf (grownHand t j code .hand) ≡ cardsOf (turnHand t j .hand) ++ (cardAhead t 0 ∷ [])
+  cards = more-cards (turnHand t j) (cardAhead t 0) code full was (a .below)
+
+  same-hand : getD (hands (seatAt t j)) (turnPlace t j) noHand ≡ playedOf (turnHand t j)
+  same-hand = hand-is (seatAt t j) (turnPlace t j) (w .seat .shaped) (w .seat .few) (w .here)
+
+  -- the history gives it the same card
+  history-cards : (c : Cards) → CardsAgree c t → cardsOf (turnHand t j .hand) ++ (nextCard c 0 ∷ []) ≡ cardsOf (grownHand t j code .hand)
+  history-cards c agree = ap (λ (x : ℕ). cardsOf (turnHand t j .hand) ++ (x ∷ [])) (next-card t c 0 agree (omega (arith, a .left))) ∙ sym cards
+
+  wins-won : (c : Cards) → CardsAgree c t → wins (t .options) c j (stake (seatAt t j)) (hands (seatAt t j)) e ≡ won
+  unfolding wins
+  wins-won c agree =
+      let o = t .options in
+      let hs = hands (seatAt t j) in
+      let prize-of : Played → ℕ = λ x. prize o (stake (seatAt t j)) (grown x (nextCard c 0)) in
+      simp (of-seat e j (g .guest), g .gives)
+      (ap (λ (b : List ℕ). prize-of (getD hs (waitingPlace o (getD b 0 0) hs) noHand)) (sym (agree .bank))
+      ∙ ap prize-of same-hand
+      ∙ prize-same o (stake (seatAt t j)) (grown (playedOf (turnHand t j)) (nextCard c 0)) (playedOf (grownHand t j code)) (history-cards c agree))
+
+  card-call : HandCall t e j (turnPlace t j) (t .tray - won) new-money (grownHand t j code) (drawn (t .shoe) 1) 1 more won
+  card-call =
+      let s = seatAt t j in
+      let h = turnHand t j in
+      let new = grownHand t j code in
+      record {
+        guest = g .guest;
+        no-insure = g .no-insure;
+        same-stake = refl;
+        same-insurance = refl;
+        full = more-full h (cardAhead t 0) code full was (a .below);
+        sound-hand = more-sound h (cardAhead t 0) code full was (a .below) (g .in-code);
+        decides = λ c agree. g .decides c (playedOf h) same-hand (w .not-ended) ∙ ap (λ (xs : List ℕ). set (hands s) (turnPlace t j) (played xs (h .origin) code)) (history-cards c agree);
+        lays-it = g .lays-it;
+        wins-it = wins-won;
+        wager-grows = omega (arith, g .wager-is (playedOf new) refl, wager-single (stake s) (playedOf h) (λ b. omega arith));
+        prize-grows = omega (arith, prize-none (t .options) (stake s) (playedOf h) (no-prize-below-21 (cardsOf (h .hand)) (a .below)));
+        purse-pays = omega (arith, a .purse-has);
+        tray-pays = omega (arith, prize-most (t .options) (stake s) (playedOf new), tray-covers t (shaped .nine-seats) sound (w .seat .acting .dealt) j (nine t shaped sound j (w .seat .acting .within)));
+        draws = draws-some t 1 (a .left) (omega arith);
+        takes = g .takes;
+        cards-grow = λ v.
+            omega
+            (arith, ap (sum v) cards, sum-snoc v (cardsOf (h .hand)) (cardAhead t 0), ap (sum v) (next-one t shaped sound (omega (arith, a .left))), sum-one v (cardAhead t 0));
+      }
+
+  card-decides : Decision t e (cardEffect more code t j)
+  unfolding cardEffect
+  card-decides =
+      record {
+        j = j;
+        tray = t .tray - won;
+        seat = with-hand (seatAt t j) new-money (turnPlace t j) (grownHand t j code);
+        shoe = drawn (t .shoe) 1;
+        k = 1;
+        more = more;
+        won = won;
+        is = refl;
+        decided = one-hand t e j (turnPlace t j) (t .tray - won) new-money (grownHand t j code) (drawn (t .shoe) 1) 1 more won shaped sound w card-call;
+      }
+
+-- a hand that takes cards is below 21
+takes-below : (t : Table) (j : ℕ) → mayTake takesCards t j ≡ true → total (cardsOf (turnHand t j .hand)) < 21
+unfolding takesCards
+takes-below t j e =
+    let h = playedOf (turnHand t j) in
+    ltb-true (total (h .cards)) 21 (and-eq-true-iff (waits (t .options) (up t) (length (hands (seatAt t j))) h && not (eqb (h .origin) splitAces)) (ltb (total (h .cards)) 21) .0 e .1)
+
+double-takes : (t : Table) (j : ℕ) → mayTake permitsDouble t j ≡ true → mayTake takesCards t j ≡ true
+unfolding permitsDouble
+double-takes t j e =
+    let h = playedOf (turnHand t j) in
+    let two = and-eq-true-iff (mayTake takesCards t j && hasTwoCards h) (eqb (t .options .double) 1 || eqb (total (h .cards)) 11) .0 e .0 in
+    and-eq-true-iff (mayTake takesCards t j) (hasTwoCards h) .0 two .0
+
+module _ (t : Table) (at : At) (order : List ℕ) (shaped : Shaped t) (sound : Sound t) where
+  pub draw-decides : first (drawConditions t (at .seat)) ≡ 0 → Decision t (entry (Draw at) order) (drawEffect t (at .seat))
+  unfolding drawConditions turnConditions roundConditions permitsDraw all lays decide callTakes
+  draw-decides e =
+      let j = at .seat in
+      let may = mayTake takesCards t j in
+      let holds : (k : ℕ) → getD (drawConditions t j) k (0, false) .1 ≡ false = λ k. accepted-at (drawConditions t j) k refl e in
+      let w = in-turn t shaped sound j ((13, not may) ∷ (18, ltb (cardsLeft t) 1) ∷ []) refl e in
+      card-decides t (entry (Draw at) order) j 0 notEnded shaped sound w
+      (record {
+        guest = record { least = omega arith; most = omega arith; seat-is = refl };
+        no-insure = refl;
+        gives = refl;
+        takes = λ staked c. refl;
+        decides = λ c h same still-open.
+            ap (λ (x : Played). set (hands (seatAt t j)) (turnPlace t j) (grown x (nextCard c 0))) same
+            ∙ ap (λ (n : ℕ). set (hands (seatAt t j)) (turnPlace t j) (played (h .cards ++ (nextCard c 0 ∷ [])) (h .origin) n)) still-open;
+        lays-it = simp (eq-eqb j j refl);
+        in-code = omega arith;
+        wager-is = λ h code. omega (arith, wager-single (stake (seatAt t j)) h (λ b. omega arith));
+      })
+      (record { below = takes-below t j (not-false may (holds 5)); purse-has = omega arith; left = ltb-false (cardsLeft t) 1 (holds 6) })
+
+  pub double-decides : first (doubleConditions t (at .seat)) ≡ 0 → Decision t (entry (Double at) order) (doubleEffect t (at .seat))
+  unfolding doubleConditions turnConditions roundConditions permitsDouble all lays decide callTakes
+  double-decides e =
+      let j = at .seat in
+      let S = stake (seatAt t j) in
+      let holds : (k : ℕ) → getD (doubleConditions t j) k (0, false) .1 ≡ false = λ k. accepted-at (doubleConditions t j) k refl e in
+      let w = in-turn t shaped sound j ((13, not (mayTake permitsDouble t j)) ∷ (15, ltb (purse (seatAt t j)) S) ∷ (18, ltb (cardsLeft t) 1) ∷ []) refl e in
+      card-decides t (entry (Double at) order) j S byDouble shaped sound w
+      (record {
+        guest = record { least = omega arith; most = omega arith; seat-is = refl };
+        no-insure = refl;
+        gives = refl;
+        takes = λ staked c. refl;
+        decides = λ c h same still-open. ap (λ (x : Played). set (hands (seatAt t j)) (turnPlace t j) (ended (grown x (nextCard c 0)) byDouble)) same;
+        lays-it = simp (eq-eqb j j refl);
+        in-code = omega arith;
+        wager-is = λ h code. omega (arith, wager-double S h code);
+      })
+      (record { below = takes-below t j (double-takes t j (not-false (mayTake permitsDouble t j) (holds 5))); purse-has = ltb-false (purse (seatAt t j)) S (holds 6); left = ltb-false (cardsLeft t) 1 (holds 7) })

@@ -1,0 +1,101 @@
+-- An accepted insurance: the amount goes from the purse to the layout, and nothing else changes.
+use mathlib.Core.Path.{_≡_, refl}
+use mathlib.Core.Bool.{true, false, and-false}
+use mathlib.Core.List.{List}
+use Prim.Native.Nat.{ℕ, _-_, _≤_, _<_}
+use native.Mathlib.Omega.{arith}
+use lib.ListN.{getD}
+use borrow.Author.Tests.{ltb-false, eq-eqb, not-false}
+use Rattle.lists.specs.Sum.{sum}
+use Rattle.lists.specs.Tests.{all}
+use Rattle.cards.specs.Card.{isAce}
+use Rattle.call.specs.declared.At.{At}
+use Rattle.call.specs.declared.Call.the-variants.{Insure}
+use Rattle.call.specs.Refusal.{first}
+use Rattle.call.proofs.Refusals.{accepted-at}
+use Rattle.history.specs.Entry.{entry}
+use Rattle.history.specs.Cards.{callTakes}
+use Rattle.history.specs.Hands.{decide}
+use Rattle.history.specs.Money.{lays, wins}
+use Rattle.table.specs.declared.Seat.{Seat}
+use Rattle.table.specs.declared.Table.{Table}
+use Rattle.table.specs.Seat.{money, makeSeat, purse, stake, insurance, prizes}
+use Rattle.table.specs.Table.{seatAt, up}
+use Rattle.table.specs.Broken.{insurancePermitted}
+use Rattle.table.specs.Shape.{Shaped, ShapedSeat}
+use Rattle.table.specs.Sound.{Sound}
+use Rattle.table.proofs.SeatHands.{laid-playing}
+use Rattle.decision_spec.specs.Round.{roundConditions}
+use Rattle.decision_spec.specs.Insure.{insureConditions, insureEffect}
+use Rattle.decision_spec.proofs.OneCall.{Acting, Decided, Decision, draws-none}
+use Rattle.decision_spec.proofs.Accepted.{acting, has-stake, Staked, staked-seat}
+
+-- what an accepted insurance gives
+record Insures (t : Table) (j n : ℕ) : Type 0 where
+  acting : Acting t j
+  staked : 0 < stake (seatAt t j)
+  none-yet : insurance (seatAt t j) ≡ 0
+  ace : isAce (up t) ≡ true
+  permitted : insurancePermitted (t .options) (stake (seatAt t j)) n ≡ true
+  purse-has : n ≤ purse (seatAt t j)
+
+accepted : (t : Table) (j n : ℕ) → first (insureConditions t j n) ≡ 0 → Insures t j n
+unfolding insureConditions roundConditions all
+accepted t j n e =
+    let s = seatAt t j in
+    let at : (k : ℕ) → getD (insureConditions t j n) k (0, false) .1 ≡ false = λ k. accepted-at (insureConditions t j n) k refl e in
+    record {
+      acting = acting t j (at 1) (at 2);
+      staked = has-stake t j (at 4);
+      none-yet = omega (arith, ltb-false 0 (insurance s) (at 3));
+      ace = not-false (isAce (up t)) (at 6);
+      permitted = not-false (insurancePermitted (t .options) (stake s) n) (at 8);
+      purse-has = ltb-false (purse s) n (at 9);
+    }
+
+-- the seat after it
+abbrev insured-seat : Table → ℕ → ℕ → Seat
+insured-seat t j n = makeSeat (money (purse (seatAt t j) - n) (stake (seatAt t j)) n) (seatAt t j .hands)
+
+module _ (t : Table) (at : At) (n : ℕ) (order : List ℕ) (sound : Sound t) (ins : Insures t (at .seat) n) where
+  decided : Staked t (at .seat) → Decided t (entry (Insure at n) order) (at .seat) (t .tray) (insured-seat t (at .seat) n) (t .shoe) 0 n 0
+  unfolding lays wins decide callTakes sum prizes
+  decided seat =
+      let shaped : ShapedSeat (insured-seat t (at .seat) n) = record { four-places = seat .shaped .four-places; twenty-cards = seat .shaped .twenty-cards } in
+      record {
+        guest = record { least = omega arith; most = omega arith; seat-is = refl };
+        acting = ins .acting;
+        shaped-seat = shaped;
+        same-stake = refl;
+        insured = λ some. record { in-round = ins .acting .dealt; ace-up = ins .ace; staked = ins .staked; permitted = ins .permitted };
+        has-hands = seat .some;
+        playing = record { in-round = seat .playing .in-round; staked = ins .staked; within = seat .playing .within; each = seat .playing .each };
+        insurance-is = refl;
+        hands-are = λ c agree. refl;
+        lays-it = simp (eq-eqb (at .seat) (at .seat) refl);
+        wins-it = λ c agree. simp and-false;
+        laid-grows = omega (arith, laid-playing (insured-seat t (at .seat) n) shaped (seat .some), laid-playing (seatAt t (at .seat)) (seat .shaped) (seat .some), ins .none-yet);
+        prizes-grow = omega arith;
+        purse-pays = omega (arith, ins .purse-has);
+        tray-pays = omega arith;
+        draws = draws-none t sound;
+        takes = λ staked c. refl;
+        cards-moved = λ w. omega arith;
+      }
+
+pub insure-decides : (t : Table) (at : At) (n : ℕ) (order : List ℕ) → Shaped t → Sound t → first (insureConditions t (at .seat) n) ≡ 0
+    → Decision t (entry (Insure at n) order) (insureEffect t (at .seat) n)
+unfolding insureEffect
+insure-decides t at n order shaped sound e =
+    let ins = accepted t (at .seat) n e in
+    record {
+      j = at .seat;
+      tray = t .tray;
+      seat = insured-seat t (at .seat) n;
+      shoe = t .shoe;
+      k = 0;
+      more = n;
+      won = 0;
+      is = refl;
+      decided = decided t at n order sound ins (staked-seat t shaped sound (at .seat) (ins .acting) (ins .staked));
+    }

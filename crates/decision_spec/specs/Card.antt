@@ -1,0 +1,31 @@
+-- What draw and double share: the next card of the shoe goes to the hand, and a prize is paid in the call that makes it.
+use Prim.Native.Nat.{ℕ, _+_, _-_}
+use lib.ListN.{getD, set}
+use Rattle.cards.specs.Hand.{withCard}
+use Rattle.rules.specs.declared.seat_hand.SeatHand.{SeatHand}
+use Rattle.rules.specs.SeatHand.{playedOf}
+use Rattle.payment.specs.Prize.{prize}
+use Rattle.table.specs.declared.Table.{Table}
+use Rattle.table.specs.Seat.{money, makeSeat, purse, stake, insurance}
+use Rattle.table.specs.Shoe.{drawn}
+use Rattle.table.specs.Table.{makeTable, seatAt}
+use Rattle.decision_spec.specs.Turn.{turnPlace, turnHand}
+
+-- The card n places behind the next one.
+abbrev pub cardAhead : Table → ℕ → ℕ
+cardAhead t n = getD (t .shoe .order) (t .shoe .drawn + n) 0
+
+-- The hand whose turn it is with the next card, ended by this code.
+abbrev pub grownHand : Table → ℕ → ℕ → SeatHand
+grownHand t j code = record { hand = withCard (turnHand t j .hand) (cardAhead t 0); origin = turnHand t j .origin; ended = code }
+
+-- The seat lays `more`, its hand takes the next card, and the prize of that hand goes from tray to purse.
+unfoldable pub cardEffect : ℕ → ℕ → Table → ℕ → Table
+cardEffect more code t j =
+    let s = seatAt t j in
+    let h = grownHand t j code in
+    let won = prize (t .options) (stake s) (playedOf h) in
+    makeTable (t .options) (t .tray - won)
+    (set (t .seats) j
+    (makeSeat (money (purse s - more + won) (stake s) (insurance s)) (record { places = set (s .hands .places) (turnPlace t j) h; many = s .hands .many })))
+    (t .bank) (drawn (t .shoe) 1)

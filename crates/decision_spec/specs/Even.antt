@@ -1,0 +1,15 @@
+-- even: natural against an ace or ten-value (article 10 n.º 3).
+use mathlib.Core.Bool.{not}
+use mathlib.Core.List.{List, [], _∷_, _++_}
+use Prim.Native.Nat.{ℕ}
+use Rattle.call.specs.Refusal.{Condition}
+use Rattle.rules.specs.SeatHand.{byEven}
+use Rattle.rules.specs.Leaving.{permitsEven}
+use Rattle.table.specs.declared.Table.{Table}
+use Rattle.decision_spec.specs.Turn.{turnConditions, mayTake, endEffect}
+
+unfoldable pub evenConditions : Table → ℕ → List Condition
+evenConditions t j = turnConditions t j ++ (13, not (mayTake permitsEven t j)) ∷ []
+
+abbrev pub evenEffect : Table → ℕ → Table
+evenEffect t j = endEffect byEven t j

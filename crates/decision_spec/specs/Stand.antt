@@ -1,0 +1,13 @@
+-- stand: every waiting hand may, so 13 is never given.
+use mathlib.Core.List.{List}
+use Prim.Native.Nat.{ℕ}
+use Rattle.call.specs.Refusal.{Condition}
+use Rattle.rules.specs.SeatHand.{byStand}
+use Rattle.table.specs.declared.Table.{Table}
+use Rattle.decision_spec.specs.Turn.{turnConditions, endEffect}
+
+abbrev pub standConditions : Table → ℕ → List Condition
+standConditions t j = turnConditions t j
+
+abbrev pub standEffect : Table → ℕ → Table
+standEffect t j = endEffect byStand t j

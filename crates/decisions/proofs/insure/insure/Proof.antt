@@ -1,0 +1,67 @@
+-- The number decides: the table as it was, or the effect; an accepted call's seat is one of the nine, and its amount fits.
+use mathlib.Core.Path.{_≡_, sym, ap, _∙_}
+use Prim.Native.Nat.{_-_}
+use native.Mathlib.Omega.{arith}
+use borrow.Author.Needs.{needs}
+use Rattle.table.specs.declared.Seat.{Seat}
+use Rattle.table.specs.Seat.{purse, stake, makeSeat, money}
+use Rattle.table.specs.Table.{seatAt, withSeat}
+use Rattle.answer.proofs.outcome.Laws.{refused, accepted}
+use Rattle.decision_spec.specs.Insure.{insureConditions, insureEffect}
+use Rattle.decisions.proofs.insure.Accepted.{insure-accepted}
+use Rattle.decisions.proofs.insure.insure.Statement.{statement}
+use Rattle.decisions.proofs.insure.insure.Tie as tie
+
+insure-number-requires : tie.Need-insure-number-requires
+insure-number-requires c κs = search needs
+
+returns : tie.Need-returns
+returns c =
+    let t = c .before .before .args .t in
+    let j = c .before .before .args .at .seat in
+    let n = c .before .before .args .n in
+    refused (insureConditions t j n) (insureEffect t j n) t _ (c .before .insure-number .ensures) (c .if1 .taken)
+
+cast-j : tie.Need-cast-j
+cast-j c = search needs
+
+seat-of-requires : tie.Need-seat-of-requires
+seat-of-requires c κs =
+    let start = c .before .before .before in
+    insure-accepted (start .args .t) (start .args .at .seat) (start .args .n) (sym (c .before .before .insure-number .ensures) ∙ c .before .if1 .left) .0
+
+insured-requires : tie.Need-insured-requires
+insured-requires c κs =
+    let start = c .before .before .before .before in
+    let s = seatAt (start .args .t) (start .args .at .seat) in
+    let facts = insure-accepted (start .args .t) (start .args .at .seat) (start .args .n) (sym (c .before .before .before .insure-number .ensures) ∙ c .before .before .if1 .left) in
+    let same-purse : purse (c .seat-of .result) ≡ purse s = ap purse (c .seat-of .ensures) in
+    let same-stake : stake (c .seat-of .result) ≡ stake s = ap stake (c .seat-of .ensures) in
+    (omega (arith, facts .1), omega (arith, facts .2))
+
+with-seat-requires : tie.Need-with-seat-requires
+with-seat-requires c κs = search needs
+
+returns-2 : tie.Need-returns-2
+unfolding insureEffect
+returns-2 c =
+    let start = c .before .before .before .before .before .before in
+    let t = start .args .t in
+    let j = start .args .at .seat in
+    let n = start .args .n in
+    let next : c .before .insured .result ≡ makeSeat (money (purse (seatAt t j) - n) (stake (seatAt t j)) n) (seatAt t j .hands)
+    = c .before .insured .ensures ∙ ap (λ (s : Seat). makeSeat (money (purse s - n) (stake s) n) (s .hands)) (c .before .before .seat-of .ensures) in
+    accepted (insureConditions t j n) (insureEffect t j n) t _ _ (c .before .before .before .before .before .insure-number .ensures) (c .before .before .before .before .if1 .left)
+    (c .with-seat .ensures ∙ ap (withSeat t j) next)
+
+pub insure-spec : {M : Type 1} → statement M
+insure-spec =
+    tie.close
+    (tie.spec
+    insure-number-requires
+    returns
+    cast-j
+    seat-of-requires
+    insured-requires
+    with-seat-requires
+    returns-2)

@@ -1,0 +1,33 @@
+-- The seat is read, its first hand is ended, and the seat goes back in its place.
+use mathlib.Core.Path.{_∙_, ap}
+use borrow.Author.Needs.{needs}
+use Rattle.rules.specs.SeatHand.{bySurrender}
+use Rattle.table.specs.declared.Seat.{Seat}
+use Rattle.table.specs.Table.{withSeat}
+use Rattle.decision_spec.specs.Round.{placeOf, withPlace, endedBy}
+use Rattle.decision_spec.specs.Surrender.{surrenderEffect}
+use Rattle.decisions.proofs.surrender.surrendered.Statement.{statement}
+use Rattle.decisions.proofs.surrender.surrendered.Tie as tie
+
+cast-j : tie.Need-cast-j
+cast-j c = search needs
+
+seat-of-requires : tie.Need-seat-of-requires
+seat-of-requires c κs = search needs
+
+surrendered-seat-requires : tie.Need-surrendered-seat-requires
+surrendered-seat-requires c κs = search needs
+
+with-seat-requires : tie.Need-with-seat-requires
+with-seat-requires c κs = search needs
+
+returns : tie.Need-returns
+unfolding surrenderEffect
+returns c =
+    let start = c .before .before .before .before in
+    c .with-seat .ensures
+    ∙ ap (withSeat (start .args .t) (start .args .at .seat))
+    (c .before .surrendered-seat .ensures ∙ ap (λ (s : Seat). withPlace s 0 (endedBy (placeOf s 0) bySurrender)) (c .before .before .seat-of .ensures))
+
+pub surrendered-spec : {M : Type 1} → statement M
+surrendered-spec = tie.close (tie.spec cast-j seat-of-requires surrendered-seat-requires with-seat-requires returns)

@@ -1,0 +1,2 @@
+-- Only proofs need these.
+pub mod InTurn

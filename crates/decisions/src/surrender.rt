@@ -1,0 +1,83 @@
+// surrender: out of turn, before anyone has drawn, doubled or split in this round (document 01, "The seventeen calls").
+ghost use mathlib.Core.Path.{_≡_};
+ghost use Prim.Native.Nat.{_<_};
+ghost use Rattle.call.specs.Refusal.{first};
+ghost use Rattle.rules.specs.SeatHand.{bySurrender};
+ghost use Rattle.answer.specs.Outcome.{outcome};
+ghost use Rattle.decision_spec.specs.Round.{placeOf, withPlace, endedBy};
+ghost use Rattle.decision_spec.specs.Surrender.{surrenderConditions, surrenderEffect};
+use crate::in_round::round_number;
+use crate::in_turn::with_place;
+use crate::progress::any_drew;
+use answer::outcome::Outcome;
+use broken::broken;
+use call::At;
+use cards::card::is_ace;
+use rules::seat_hand::BY_SURRENDER;
+use rules::turn::seat_waits;
+use state::round::up;
+use state::seat_at::seat_of;
+use state::seats::with_seat;
+use table::Seat;
+use table::Table;
+
+// Behind the conditions of the round: 10 no stake, 12 somebody has drawn, 12 the seat's hand does not wait, 13 an ace up.
+fn surrender_number(t: Table, at: At) -> u8
+    ensures { λ r. ⌜ r ≡ first (surrenderConditions t (at .seat)) ⌝ }
+{
+    let number = round_number(broken(t), t, at);
+    if number != 0 {
+        return number;
+    }
+    let o = t.options;
+    let card = up(t);
+    let s = seat_of(t, at.seat as usize);
+    let hands = s.hands;
+    let money = s.money;
+    if !(0 < money.stake) {
+        return 10;
+    }
+    if any_drew(t) {
+        return 12;
+    }
+    if !seat_waits(o, card, hands) {
+        return 12;
+    }
+    if is_ace(card) {
+        return 13;
+    }
+    0
+}
+
+// The seat with its first hand ended by surrender: nobody has split, so it is the only one.
+fn surrendered_seat(s: Seat) -> Seat
+    ensures { λ r. ⌜ r ≡ withPlace s 0 (endedBy (placeOf s 0) bySurrender) ⌝ }
+{
+    let hands = s.hands;
+    let mut h = hands.places[0];
+    h.ended = BY_SURRENDER;
+    with_place(s, 0, h)
+}
+
+fn surrendered(t: Table, at: At) -> Table
+    requires { ⌜ at .seat < 9 ⌝ }
+    ensures { λ r. ⌜ r ≡ surrenderEffect t (at .seat) ⌝ }
+{
+    let j = at.seat as usize;
+    let s = seat_of(t, j);
+    let next = surrendered_seat(s);
+    with_seat(t, j, next)
+}
+
+pub fn surrender(t: Table, at: At) -> Outcome
+    ensures { λ r. ⌜ r ≡ outcome (surrenderConditions t (at .seat)) (surrenderEffect t (at .seat)) t ⌝ }
+{
+    let number = surrender_number(t, at);
+    if number != 0 {
+        return Outcome { number, table: t };
+    }
+    Outcome {
+        number,
+        table: surrendered(t, at),
+    }
+}

@@ -1,0 +1,76 @@
+// What a display reads of a hand in its place. A broken table, a seat beyond the option and a place with no hand show nothing.
+ghost use mathlib.Core.Path.{_≡_};
+ghost use Rattle.display.specs.HandDisplayShown.{nothingShown, handValues, placeShown, handShown};
+use broken::broken;
+use cards::hand::Hand;
+use cards::hand::empty_hand;
+use cards::total::total;
+use payment::stake::wager;
+use rules::seat_hand::DEALT;
+use rules::seat_hand::NOT_ENDED;
+use rules::seat_hand::SeatHand;
+use rules::seat_hand::used;
+use state::seat_at::seat_of;
+use table::Seat;
+use table::Table;
+
+// A hand's cards and their total, its wager, where it comes from and how it ended.
+pub struct HandShown {
+    pub hand: Hand,
+    pub total: u32,
+    pub wager: u64,
+    pub origin: u8,
+    pub ended: u8,
+}
+
+fn no_hand() -> HandShown
+    ensures { λ r. ⌜ r ≡ nothingShown ⌝ }
+{
+    HandShown {
+        hand: empty_hand(),
+        total: 0,
+        wager: 0,
+        origin: DEALT,
+        ended: NOT_ENDED,
+    }
+}
+
+fn hand_values(stake: u32, h: SeatHand) -> HandShown
+    ensures { λ r. ⌜ r ≡ handValues stake h ⌝ }
+{
+    let hand = h.hand;
+    HandShown {
+        hand,
+        total: total(hand),
+        wager: wager(stake, h),
+        origin: h.origin,
+        ended: h.ended,
+    }
+}
+
+// The hand in that place of the seat.
+fn shown_place(s: Seat, place: usize) -> HandShown
+    ensures { λ r. ⌜ r ≡ placeShown s place ⌝ }
+{
+    let money = s.money;
+    let hands = s.hands;
+    if used(hands) <= place {
+        return no_hand();
+    }
+    let h = hands.places[place];
+    hand_values(money.stake, h)
+}
+
+pub fn shown_hand(t: Table, seat: u8, place: usize) -> HandShown
+    ensures { λ r. ⌜ r ≡ handShown t seat place ⌝ }
+{
+    if broken(t) {
+        return no_hand();
+    }
+    let o = t.options;
+    if o.seats <= seat {
+        return no_hand();
+    }
+    let s = seat_of(t, seat as usize);
+    shown_place(s, place)
+}

@@ -1,0 +1,69 @@
+-- The seat is one of the nine, and the two cards are the shoe's next ones.
+use mathlib.Core.Path.{_≡_, sym}
+use borrow.Author.Needs.{needs}
+use lib.ListN.{length, length-map}
+use Rattle.draw.proofs.split.Accepted.{read-pays, read-split}
+use Rattle.draw.proofs.split.Effect.{same-effect}
+use Rattle.draw.proofs.split.split_table.Statement.{statement}
+use Rattle.draw.proofs.split.split_table.Tie as tie
+
+whole : (c : tie.Start) → length (c .args .t .shoe .order) ≡ 416
+whole c = simp length-map at (c .good .0 .1 .1 .1 .1 .1 .1 .0 .1 .1 .0 .1 .0 .1)
+
+cast-j : tie.Need-cast-j
+cast-j c = search needs
+
+seat-of-requires : tie.Need-seat-of-requires
+seat-of-requires c κs = c .before .before .pre .turn .nine
+
+up-requires : tie.Need-up-requires
+up-requires c κs = search needs
+
+slice-aggregate-card-ahead : tie.Need-slice-aggregate-card-ahead
+slice-aggregate-card-ahead c = sym (whole (c .before .before .before .before .before .before .before))
+
+card-ahead-requires : tie.Need-card-ahead-requires
+card-ahead-requires c κs = search needs
+
+slice-aggregate-card-ahead-2 : tie.Need-slice-aggregate-card-ahead-2
+slice-aggregate-card-ahead-2 c = sym (whole (c .before .before .before .before .before .before .before .before .before))
+
+card-ahead-requires-2 : tie.Need-card-ahead-requires-2
+card-ahead-requires-2 c κs = search needs
+
+split-seat-requires : tie.Need-split-seat-requires
+split-seat-requires c κs =
+    let read = c .before .before .before .before .before .before in
+    let start = read .before .before .before .before in
+    read-pays (start .args .t) (start .args .at .seat) _ _ (read .up .ensures) (read .before .seat-of .ensures) (start .pre)
+
+draw-cards-requires : tie.Need-draw-cards-requires
+draw-cards-requires c κs = c .before .before .before .before .before .before .before .before .before .before .before .pre .two-left
+
+with-seat-requires : tie.Need-with-seat-requires
+with-seat-requires c κs = search needs
+
+returns : tie.Need-returns
+returns c =
+    let read = c .before .before .before .before .before .before .before .before .before in
+    let start = read .before .before .before .before in
+    let t = start .args .t in
+    let j = start .args .at .seat in
+    let next = read-split t j _ _ (read .up .ensures) (read .before .seat-of .ensures) _ _ _ (c .before .before .split-seat .ensures) in
+    same-effect t j _ _ _ _ _ next (c .before .before .before .before .before .card-ahead .ensures) (c .before .before .before .card-ahead2 .ensures) (c .with-seat .ensures) (c .before .draw-cards .ensures)
+
+pub split-table-spec : {M : Type 1} → statement M
+split-table-spec =
+    tie.close
+    (tie.spec
+    cast-j
+    seat-of-requires
+    up-requires
+    slice-aggregate-card-ahead
+    card-ahead-requires
+    slice-aggregate-card-ahead-2
+    card-ahead-requires-2
+    split-seat-requires
+    draw-cards-requires
+    with-seat-requires
+    returns)

@@ -1,0 +1,3 @@
+// draw: drawing, splitting.
+pub mod draw;
+pub mod split;

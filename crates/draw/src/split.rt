@@ -1,0 +1,185 @@
+// split: the hand whose turn it is, a pair, becomes two, and the stake is laid again for the new one (document 01, "The seventeen calls").
+ghost use mathlib.Core.Path.{_≡_};
+ghost use mathlib.Core.Bool.{true};
+ghost use Prim.Native.Nat.{_<_};
+ghost use lib.ListN.{getD};
+ghost use Rattle.cards.specs.Hand.{cardsOf};
+ghost use Rattle.call.specs.Refusal.{first as firstOf};
+ghost use Rattle.rules.specs.Turn.{seatWaits};
+ghost use Rattle.table.specs.Seat.{hands as handsOf};
+ghost use Rattle.answer.specs.Outcome.{outcome};
+ghost use Rattle.decision_spec.specs.Split.{splitConditions, splitEffect, splitHand, splitPlaces};
+ghost use Rattle.draw.specs.SplitSeat.{pairConditions, splitSeat, Pays, Splits};
+use answer::outcome::Outcome;
+use call::At;
+use cards::card::is_ace;
+use cards::hand::Hand;
+use cards::hand::empty_hand;
+use cards::hand::with_card;
+use cards::pair::is_pair;
+use decisions::in_turn::turn_hand;
+use decisions::in_turn::turn_number;
+use options::Options;
+use rules::seat_hand::NOT_ENDED;
+use rules::seat_hand::SPLIT;
+use rules::seat_hand::SPLIT_ACES;
+use rules::seat_hand::SeatHand;
+use rules::seat_hand::SeatHands;
+use rules::seat_hand::used;
+use rules::turn::waiting_place;
+use shoe::card_ahead;
+use shoe::draw_cards;
+use state::round::cards_left;
+use state::round::up;
+use state::seat_at::seat_of;
+use state::seats::with_purse;
+use state::seats::with_seat;
+use table::Seat;
+use table::Table;
+
+// A hand of a kept card and a drawn one.
+fn split_hand(kept: u8, card: u8) -> SeatHand
+    ensures { λ r. ⌜ r ≡ splitHand kept card ⌝ }
+{
+    let none = empty_hand();
+    let one = with_card(none, kept);
+    let hand = with_card(one, card);
+    if is_ace(kept) {
+        return SeatHand {
+            hand,
+            origin: SPLIT_ACES,
+            ended: NOT_ENDED,
+        };
+    }
+    SeatHand {
+        hand,
+        origin: SPLIT,
+        ended: NOT_ENDED,
+    }
+}
+
+// The card at a place of the hand, or 0 where it has none there.
+fn kept_card(h: Hand, k: usize) -> u8
+    requires { ⌜ k < 20 ⌝ }
+    ensures { λ r. ⌜ r ≡ getD (cardsOf h) k 0 ⌝ }
+{
+    if (h.count as usize) <= k {
+        return 0;
+    }
+    h.cards[k]
+}
+
+// The four places with the parent at p and the new hand behind it: later hands move up one.
+fn split_places(places: [SeatHand; 4], p: usize, parent: SeatHand, new: SeatHand) -> [SeatHand; 4]
+    requires { ⌜ p < 4 ⌝ }
+    ensures { λ r. ⌜ r ≡ splitPlaces places p parent new ⌝ }
+{
+    let first = places[0];
+    let second = places[1];
+    let third = places[2];
+    if p == 0 {
+        return [parent, new, second, third];
+    }
+    if p == 1 {
+        return [first, parent, new, third];
+    }
+    if p == 2 {
+        return [first, second, parent, new];
+    }
+    [first, second, third, parent]
+}
+
+// The seat with the hand whose turn it is split, the stake laid for the new hand.
+fn split_seat(o: Options, card: u8, s: Seat, first: u8, second: u8) -> Seat
+    requires { ⌜ Pays o card s ⌝ }
+    ensures { λ r. ⌜ r ≡ splitSeat o card s first second ⌝ }
+{
+    let hands = s.hands;
+    let money = s.money;
+    let old = hands.places;
+    let p = waiting_place(o, card, hands);
+    let h = turn_hand(o, card, s);
+    let pair = h.hand;
+    let parent = split_hand(kept_card(pair, 0), first);
+    let new = split_hand(kept_card(pair, 1), second);
+    let places = split_places(old, p, parent, new);
+    let many = hands.many + 1;
+    let more = SeatHands { places, many };
+    let mut next = with_purse(s, money.purse - (money.stake as u64));
+    next.hands = more;
+    next
+}
+
+fn split_table(t: Table, at: At) -> Table
+    requires { ⌜ Splits t (at .seat) ⌝ }
+    ensures { λ r. ⌜ r ≡ splitEffect t (at .seat) ⌝ }
+{
+    let o = t.options;
+    let j = at.seat as usize;
+    let s = seat_of(t, j);
+    let card = up(t);
+    let shoe = t.shoe;
+    let order = shoe.order;
+    let first = card_ahead(&order[..], shoe.drawn, 0);
+    let second = card_ahead(&order[..], shoe.drawn, 1);
+    let next = split_seat(o, card, s, first, second);
+    let rest = draw_cards(shoe, 2);
+    let mut after = with_seat(t, j, next);
+    after.shoe = rest;
+    after
+}
+
+// 13 no pair, 13 the hands are used up, 15 the purse is below the stake.
+fn pair_number(o: Options, card: u8, s: Seat) -> u8
+    requires { ⌜ seatWaits o card (handsOf s) ≡ true ⌝ }
+    ensures { λ r. ⌜ r ≡ firstOf (pairConditions o card s) ⌝ }
+{
+    let hands = s.hands;
+    let money = s.money;
+    let h = turn_hand(o, card, s);
+    let pair = h.hand;
+    if !is_pair(pair) {
+        return 13;
+    }
+    if (o.hands as usize) <= used(hands) {
+        return 13;
+    }
+    if money.purse < (money.stake as u64) {
+        return 15;
+    }
+    0
+}
+
+// Behind the conditions in turn and those of the pair: 18 fewer than two cards are left.
+fn split_number(t: Table, at: At) -> u8
+    ensures { λ r. ⌜ r ≡ firstOf (splitConditions t (at .seat)) ⌝ }
+{
+    let number = turn_number(t, at);
+    if number != 0 {
+        return number;
+    }
+    let o = t.options;
+    let s = seat_of(t, at.seat as usize);
+    let card = up(t);
+    let asked = pair_number(o, card, s);
+    if asked != 0 {
+        return asked;
+    }
+    if cards_left(t) < 2 {
+        return 18;
+    }
+    0
+}
+
+pub fn split(t: Table, at: At) -> Outcome
+    ensures { λ r. ⌜ r ≡ outcome (splitConditions t (at .seat)) (splitEffect t (at .seat)) t ⌝ }
+{
+    let number = split_number(t, at);
+    if number != 0 {
+        return Outcome { number, table: t };
+    }
+    Outcome {
+        number,
+        table: split_table(t, at),
+    }
+}

@@ -1,3 +1,0 @@
--- What draw and double share.
-pub mod Grow
-pub mod Drawable

@@ -1,2 +1,0 @@
--- Whether a seat has drawn, doubled or split.
-pub mod Drew

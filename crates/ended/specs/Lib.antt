@@ -1,2 +1,0 @@
--- The hand ended in its seat.
-pub mod Ended

@@ -1,2 +1,0 @@
--- What even and five share.
-pub mod Leave

@@ -1,2 +1,0 @@
--- What a display reads of a hand.
-pub mod Shown

@@ -1,2 +1,0 @@
--- Whether the rules permit even, five and surrender.
-pub mod Leaving

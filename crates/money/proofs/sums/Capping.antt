@@ -1,0 +1,43 @@
+-- What the sums say of the purses and the stakes themselves: cutting the purses changes no test of the limit, and something to cover is a stake.
+use mathlib.Core.Path.{_≡_, sym, _∙_, ap}
+use mathlib.Core.Bool.{true, false}
+use mathlib.Core.List.{List}
+use Prim.Native.Nat.{ℕ, _+_, _≤_}
+use native.Mathlib.Omega.{arith}
+use lib.Dec.{ltb}
+use borrow.Author.Tests.{lt-ltb, le-ltb}
+use Rattle.lists.specs.Sum.{sum}
+use Rattle.lists.proofs.Sums.{sum-cut-most, sum-cut-least, any-sum}
+use Rattle.lists.proofs.Tests.{ltb-same}
+use Rattle.table.specs.declared.Seat.{Seat}
+use Rattle.table.specs.declared.Table.{Table}
+use Rattle.table.specs.Seat.{purse, stake, isStaked, seatCover}
+use Rattle.table.specs.Table.{someStaked}
+use Rattle.table.specs.Money.{limit}
+use Rattle.money.specs.declared.sums.Sums.{Sums}
+use Rattle.money.specs.Sums.{capped, tableSums}
+
+module _ (seats : List Seat) where
+  -- past the limit with the cut purses exactly if past it with the purses
+  pub limit-capped : (a n : ℕ) → ltb limit (a + sum (λ s. capped (purse s)) seats + n) ≡ ltb limit (a + sum purse seats + n)
+  limit-capped a n =
+      ltb-same limit (a + sum (λ s. capped (purse s)) seats + n) limit (a + sum purse seats + n)
+      (λ h. omega (arith, sum-cut-most purse (limit + 1) seats))
+      (λ h. omega (arith, sum-cut-least purse (limit + 1) seats))
+
+  -- within the limit the cut purses are the purses
+  pub within-capped : sum purse seats ≤ limit → sum (λ s. capped (purse s)) seats ≡ sum purse seats
+  within-capped h = omega (arith, sum-cut-most purse (limit + 1) seats, sum-cut-least purse (limit + 1) seats)
+
+module _ (t : Table) (m : Sums) (sums : m ≡ tableSums t) where
+  -- some seat has a stake exactly if there is something to cover
+  pub some-cover : someStaked t ≡ ltb 0 (m .cover)
+  some-cover =
+      any-sum isStaked seatCover (λ s. ltb-same 0 (stake s) 0 (seatCover s) (λ h. omega arith) (λ h. omega arith)) (t .seats)
+      ∙ ap (λ (x : Sums). ltb 0 (x .cover)) (sym sums)
+
+  pub none-staked : m .cover ≡ 0 → someStaked t ≡ false
+  none-staked e = some-cover ∙ le-ltb 0 (m .cover) (omega arith)
+
+  pub is-staked : (m .cover ≡ 0 → ⊥) → someStaked t ≡ true
+  is-staked ne = some-cover ∙ lt-ltb 0 (m .cover) (omega arith)

@@ -1,0 +1,74 @@
+-- `table_sums` adds seat by seat: before each turn the sums are those of the first i seats, each at most one past the limit for each seat.
+use mathlib.Core.Path.{_≡_, refl, _∙_, ap}
+use Prim.Native.Nat.{_-_, _≤_}
+use native.Mathlib.Omega.{arith}
+use borrow.Author.Needs.{needs}
+use lib.ListN.{length, take, getD, length-map}
+use lib.Seq.{take-all}
+use Rattle.lists.specs.Sum.{sum}
+use Rattle.table.specs.Seat.{noSeat}
+use Rattle.money.specs.Sums.{sumsOver, seatSums}
+use Rattle.money.specs.Within.{Within}
+use Rattle.money.proofs.sums.Pass.{next-seat, within-more}
+use Rattle.money.proofs.sums.table_sums.Statement.{statement}
+use Rattle.money.proofs.sums.table_sums.Tie as tie
+
+abbrev Inv-loop : tie.InvT-loop
+Inv-loop o all₀ seats i₀ all i = (i ≤ 9) × (all ≡ sumsOver o (take i seats)) × Within i all
+
+abbrev μ-loop : tie.MeasureT-loop
+μ-loop o all₀ seats i₀ all i = 9 - i
+
+loop-holds : tie.Need-loop-holds Inv-loop μ-loop
+unfolding sum
+loop-holds c = search needs
+
+mul-s : tie.Need-mul-s Inv-loop μ-loop
+mul-s c = search needs
+
+array-copy-out-s : tie.Need-array-copy-out-s Inv-loop μ-loop
+array-copy-out-s c = search needs
+
+with-seat-sums-requires : tie.Need-with-seat-sums-requires Inv-loop μ-loop
+with-seat-sums-requires c κs = search needs
+
+add-i : tie.Need-add-i Inv-loop μ-loop
+add-i c = search needs
+
+loop-less : tie.Need-loop-less Inv-loop μ-loop
+loop-less c = search needs
+
+loop-again : tie.Need-loop-again Inv-loop μ-loop
+loop-again c =
+    let at = c .before .before .before in
+    let start = at .before .before .before in
+    let t = start .args .t in
+    let i = at .loop .i in
+    let full : length (t .seats) ≡ 9 = simp length-map at (start .good .0 .1 .1 .1 .1 .0 .1 .0 .1) in
+    let one = seatSums (t .options) (getD (t .seats) i noSeat) in (
+      omega arith,
+      c .with-seat-sums .ensures .0 ∙ next-seat (t .options) (t .seats) i (omega arith) (at .loop .all) one (at .loop .inv .1) refl,
+      within-more i (at .loop .all) one (c .with-seat-sums .result) (at .loop .inv .2) (c .with-seat-sums .ensures .1) (c .with-seat-sums .ensures .0),
+    )
+
+returns : tie.Need-returns Inv-loop μ-loop
+returns c =
+    let start = c .before .before .before .before in
+    let t = start .args .t in
+    let full : length (t .seats) ≡ 9 = simp length-map at (start .good .0 .1 .1 .1 .1 .0 .1 .0 .1) in
+    c .before .loop .inv .1 ∙ ap (sumsOver (t .options)) (take-all (c .before .loop .i) (t .seats) (omega arith))
+
+pub table-sums-spec : {M : Type 1} → statement M
+table-sums-spec =
+    tie.close
+    (tie.spec
+    Inv-loop
+    μ-loop
+    loop-holds
+    mul-s
+    array-copy-out-s
+    with-seat-sums-requires
+    add-i
+    loop-less
+    loop-again
+    returns)

@@ -1,0 +1,90 @@
+// The money of all seats, summed in one pass. Every table is taken: a damaged purse is cut before it is added, so no sum wraps.
+ghost use mathlib.Core.Path.{_≡_};
+ghost use Rattle.money.specs.Sums.{capped, seatSums, plusSums, tableSums};
+ghost use Rattle.money.specs.Within.{Within};
+use crate::seat_money::laid;
+use crate::seat_money::prizes;
+use options::Options;
+use payment::cover::cover;
+use table::Seat;
+use table::Table;
+
+// All money on a table is at most 10^15.
+pub const LIMIT: u64 = 1000000000000000;
+
+// What the seats have laid, their prizes, what the tray must hold for them, and what is in their purses.
+pub struct Sums {
+    pub laid: u64,
+    pub prizes: u64,
+    pub cover: u64,
+    pub purses: u64,
+}
+
+// A purse past the limit counts as one past it: that is all that a test of the limit needs.
+fn cut(purse: u64) -> u64
+    ensures { λ r. ⌜ r ≡ capped purse ⌝ }
+{
+    if LIMIT < purse { LIMIT + 1 } else { purse }
+}
+
+// The sums of one seat.
+pub fn seat_sums(o: Options, s: Seat) -> Sums
+    ensures same { λ r. ⌜ r ≡ seatSums o s ⌝ }
+    ensures small { λ r. ⌜ Within 1 r ⌝ }
+{
+    let money = s.money;
+    Sums {
+        laid: laid(s),
+        prizes: prizes(o, s),
+        cover: cover(money.stake),
+        purses: cut(money.purse),
+    }
+}
+
+// The sums of two groups of seats together. Public for passes over the nine seats alone: so it asks that both are sums of at most nine.
+pub fn plus(a: Sums, b: Sums) -> Sums
+    requires left { ⌜ Within 9 a ⌝ }
+    requires right { ⌜ Within 9 b ⌝ }
+    ensures { λ r. ⌜ r ≡ plusSums a b ⌝ }
+{
+    Sums {
+        laid: a.laid + b.laid,
+        prizes: a.prizes + b.prizes,
+        cover: a.cover + b.cover,
+        purses: a.purses + b.purses,
+    }
+}
+
+// The sums with those of one seat more. Not by `plus`: `seat_sums` called at one place is put into the pass that tests every table.
+fn with_seat_sums(all: Sums, o: Options, s: Seat) -> Sums
+    requires { ⌜ Within 8 all ⌝ }
+    ensures same { λ r. ⌜ r ≡ plusSums all (seatSums o s) ⌝ }
+    ensures small { λ _. ⌜ Within 1 (seatSums o s) ⌝ }
+{
+    let money = s.money;
+    Sums {
+        laid: all.laid + laid(s),
+        prizes: all.prizes + prizes(o, s),
+        cover: all.cover + cover(money.stake),
+        purses: all.purses + cut(money.purse),
+    }
+}
+
+// The sums of all nine seats.
+pub fn table_sums(t: Table) -> Sums
+    ensures { λ r. ⌜ r ≡ tableSums t ⌝ }
+{
+    let o = t.options;
+    let mut all = Sums {
+        laid: 0,
+        prizes: 0,
+        cover: 0,
+        purses: 0,
+    };
+    let seats = t.seats;
+    for i in 0usize..9 {
+        let s = seats[i];
+        all = with_seat_sums(all, o, s);
+    }
+    all
+}

@@ -1,2 +1,0 @@
--- Orders of cards.
-pub mod Begun

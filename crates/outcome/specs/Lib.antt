@@ -1,2 +1,0 @@
--- What a call gives back.
-pub mod Outcome

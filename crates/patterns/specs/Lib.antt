@@ -1,3 +1,0 @@
--- Hands that the rules know by their cards: natural and pair.
-pub mod Natural
-pub mod Pair

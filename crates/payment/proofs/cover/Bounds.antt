@@ -1,0 +1,81 @@
+-- What a hand and a seat with its prizes can take at most: the reason for the cover.
+use mathlib.Core.Path.{_≡_, refl}
+use mathlib.Core.Bool.{Bool, true, false}
+use mathlib.Core.List.{List}
+use Prim.Native.Nat.{ℕ, _+_, _*_, _≤_}
+use native.Mathlib.Nat.{le-refl, mul-le-mul-left}
+use native.Mathlib.Omega.{arith}
+use lib.Dec.{ltb, eqb}
+use lib.ListN.{length}
+use Rattle.cards.specs.Total.{total, isBust}
+use Rattle.lists.specs.Sum.{sum}
+use Rattle.lists.proofs.Picks.{cond-most}
+use Rattle.lists.proofs.Sums.{sum-above}
+use Rattle.options.specs.declared.Options.{Options}
+use Rattle.payment.specs.declared.bank.Score.{Score}
+use Rattle.rules.specs.SeatHand.{Played, natural, bySurrender, byEven, byFive}
+use Rattle.payment.specs.Wager.{wager}
+use Rattle.payment.specs.HandPay.{byTotals, againstNatural, againstBank, handBack, handPay}
+use Rattle.payment.specs.Insurance.{insurancePay}
+use Rattle.payment.specs.Prize.{prize}
+use Rattle.payment.proofs.stake.Bounds.{wager-bounds, seat-prizes}
+use Rattle.payment.specs.Cover.{cover}
+
+totals-most : (W mine bank : ℕ) → byTotals W mine bank ≤ W + W
+unfolding byTotals
+totals-most W mine bank = cond-most (ltb bank mine) (omega arith) (cond-most (eqb mine bank) (omega arith) (omega arith))
+
+module _ (o : Options) (bank : Score) (S W : ℕ) (h : Played) where
+  natural-most : againstNatural o S W h ≤ W
+  unfolding againstNatural
+  natural-most = omega arith
+
+  bank-most : W ≤ 2 * S → againstBank o bank S W h ≤ W + 2 * S
+  unfolding againstBank
+  bank-most w =
+      cond-most (natural h) (cond-most (bank .natural) (omega arith) (omega arith))
+      (cond-most (bank .natural) (omega (arith, natural-most))
+      (cond-most (ltb 21 (bank .total)) (omega arith)
+      (omega (arith, totals-most W (total (h .cards)) (bank .total)))))
+
+  bank-natural-most : bank .natural ≡ true → againstBank o bank S W h ≤ W
+  unfolding againstBank
+  bank-natural-most e = simp e (cond-most (natural h) (omega arith) natural-most)
+
+  -- no rule before the bank pays more than the stake
+  back-most : (k : ℕ) → S ≤ k → againstBank o bank S W h ≤ W + k → handBack o bank S W h ≤ W + k
+  unfolding handBack
+  back-most k s most =
+      cond-most (eqb (h .ended) bySurrender) (omega arith)
+      (cond-most (eqb (h .ended) byEven) (omega arith)
+      (cond-most (eqb (h .ended) byFive) (omega arith)
+      (cond-most (isBust (h .cards)) (omega arith) most)))
+
+module _ (o : Options) (bank : Score) (S : ℕ) where
+  -- a hand gains at most twice the stake
+  pub gain-most : (h : Played) → handBack o bank S (wager S h) h ≤ wager S h + 2 * S
+  gain-most h = back-most o bank S (wager S h) h (2 * S) (omega arith) (bank-most o bank S (wager S h) h (wager-bounds S h .1))
+
+  -- and loses at most its wager
+  pub loss-most : (h : Played) → handPay o bank S h .laid ≤ handPay o bank S h .back + wager S h
+  loss-most h = omega arith
+
+  -- against a bank natural it gains at most the stake
+  pub gain-against-natural : (h : Played) → bank .natural ≡ true → handBack o bank S (wager S h) h ≤ wager S h + S
+  gain-against-natural h e = back-most o bank S (wager S h) h S (le-refl S) (omega (arith, bank-natural-most o bank S (wager S h) h e))
+
+  seat-most : (hands : List Played) (k : ℕ) → length hands ≤ 4 → ((h : Played) → handBack o bank S (wager S h) h ≤ wager S h + k) → sum (λ h. handPay o bank S h .back) hands ≤ sum (λ h. handPay o bank S h .laid) hands + 4 * k
+  seat-most hands k few most = omega (arith, mul-le-mul-left k few, sum-above (λ h. handPay o bank S h .back) (λ h. handPay o bank S h .laid) k most hands)
+
+  -- an insurance is paid on a bank natural alone, where no hand gains more than the stake
+  pub seat-gain : (hands : List Played) (I : ℕ) → length hands ≤ 4 → I ≤ S → sum (λ h. handPay o bank S h .back) hands + insurancePay bank I .back ≤ sum (λ h. handPay o bank S h .laid) hands + I + 8 * S
+  unfolding insurancePay
+  seat-gain hands I few most = go (bank .natural) refl
+    where
+      go : (b : Bool) → bank .natural ≡ b → sum (λ h. handPay o bank S h .back) hands + insurancePay bank I .back ≤ sum (λ h. handPay o bank S h .laid) hands + I + 8 * S
+      go true e = simp e (omega (arith, seat-most hands S few (λ h. gain-against-natural h e)))
+      go false e = simp e (omega (arith, seat-most hands (2 * S) few gain-most))
+
+-- what a seat can take from the tray in one round is at most its cover
+pub seat-cover : (o : Options) (bank : Score) (S : ℕ) (hands : List Played) (I : ℕ) → length hands ≤ 4 → I ≤ S → sum (λ h. handPay o bank S h .back) hands + insurancePay bank I .back + sum (prize o S) hands ≤ sum (λ h. handPay o bank S h .laid) hands + I + cover S
+seat-cover o bank S hands I few most = omega (arith, seat-gain o bank S hands I few most, seat-prizes o S hands few)

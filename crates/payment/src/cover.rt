@@ -1,0 +1,9 @@
+// The cover of a seat: what it can take from the tray in one round.
+ghost use mathlib.Core.Path.{_≡_};
+ghost use Rattle.payment.specs.Cover.{cover as coverOf};
+
+pub fn cover(stake: u32) -> u64
+    ensures { λ r. ⌜ r ≡ coverOf stake ⌝ }
+{
+    20 * (stake as u64)
+}

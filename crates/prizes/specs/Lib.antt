@@ -1,2 +1,0 @@
--- Which hand wins the special prize.
-pub mod PrizeHand

@@ -1,2 +1,0 @@
--- What a seat has done in the round.
-pub mod Acted

@@ -1,0 +1,8 @@
+// rules: standing, waiting, turn, permission, leaving, drew.
+pub mod drew;
+pub mod leaving;
+pub mod open_calls;
+pub mod permission;
+pub mod seat_hand;
+pub mod turn;
+pub mod waiting;

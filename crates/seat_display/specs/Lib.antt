@@ -1,2 +1,0 @@
--- What a display reads of a seat.
-pub mod Shown

@@ -1,2 +1,0 @@
--- The part of a split that is one seat's.
-pub mod SplitSeat

@@ -1,2 +1,0 @@
--- Cards counted by a function of the code.
-pub mod Counted

@@ -1,2 +1,0 @@
--- Whose turn it is.
-pub mod Turn

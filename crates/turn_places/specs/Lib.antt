@@ -1,2 +1,0 @@
--- The place whose turn it is at a table.
-pub mod Place

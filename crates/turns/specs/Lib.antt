@@ -1,2 +1,0 @@
--- Whose turn it is at a table.
-pub mod Turns

@@ -1,2 +1,0 @@
--- Which hand waits.
-pub mod Waits
