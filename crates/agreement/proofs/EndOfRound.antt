@@ -15,7 +15,7 @@ use Rattle.options.specs.declared.Options.{Options}
 use Rattle.table.specs.declared.Seat.{Seat}
 use Rattle.table.specs.declared.Shoe.{Shoe}
 use Rattle.table.specs.declared.Table.{Table}
-use Rattle.table.specs.Seat.{noSeat, purse, stake, insurance, hands, laid, prizes}
+use Rattle.table.specs.Seat.{missingSeat, purse, stake, insurance, hands, laid, prizes}
 use Rattle.table.specs.Shoe.{isFresh}
 use Rattle.table.specs.Table.{seatAt}
 use Rattle.table.proofs.RoundEnd.{RoundEnd, cleared, roundEnded, cleared-laid, cleared-prizes, end-shaped, end-sound, end-money}
@@ -23,8 +23,8 @@ use Rattle.history.specs.Entry.{Entry, isKind, isFill, isCredit, isBuy, isCash,
 use Rattle.history.specs.Rounds.{stakeIn, stakedBelow}
 use Rattle.history.specs.Cards.{Cards, makeCards, callTakes, bankAfter, cardsAfter, cardsOfHistory}
 use Rattle.history.specs.Hands.{handsAfter}
-use Rattle.history.specs.Money.{lays, wins, laidEver, prizesEver, prizeOf, bought, cashed, ended, endedBy, purseOf}
-use Rattle.agreement.specs.Agrees.{SeatAgrees, CardsAgree, Good}
+use Rattle.history.specs.Money.{lays, wins, laidEver, prizesEver, prizeOf, bought, cashed, endsBrought, endBrings, purseOf}
+use Rattle.agreement.specs.Aids.Agrees.{SeatAgrees, CardsAgree, Good}
 use Rattle.agreement.proofs.Purse.{purse-law}
 use Rattle.agreement.proofs.Quiet.{none-of}
 
@@ -77,9 +77,9 @@ module _ (o : Options) (opening : List ℕ) (es : List Entry) (i : ℕ) (e : Ent
   prize-end = simp (q .no-draw, q .no-double, and-false)
 
   -- the purse changes by what the ended round adds
-  pub purse-end : (x next plus minus : ℕ) → Diff (endedBy o opening es i e) plus minus → pos x ≡ purseOf o opening es i → next + minus ≡ x + plus → pos next ≡ purseOf o opening (e ∷ es) i
+  pub purse-end : (x next plus minus : ℕ) → Diff (endBrings o opening es i e) plus minus → pos x ≡ purseOf o opening es i → next + minus ≡ x + plus → pos next ≡ purseOf o opening (e ∷ es) i
   purse-end x next plus minus d p h =
-      purse-law x next (bought es i) (cashed es i) (laidEver es i) (prizesEver o opening es i) _ _ _ _ (ended o opening es i) (endedBy o opening es i e) plus minus d p
+      purse-law x next (bought es i) (cashed es i) (laidEver es i) (prizesEver o opening es i) _ _ _ _ (endsBrought o opening es i) (endBrings o opening es i e) plus minus d p
       (simp (q .no-buy, q .no-cash) (omega (arith, lays-end (stakeIn es i), prize-end)))
 
   -- the seat after it
@@ -96,17 +96,17 @@ module _ (o : Options) (opening : List ℕ) (es : List Entry) (i : ℕ) (e : Ent
       }
 
 -- the same of the seat of any number, where the table has none such too
-listed : (o : Options) (opening : List ℕ) (es : List Entry) (purse-of : Seat → ℕ) (seats : List Seat) (i : ℕ) → purse-of noSeat ≡ 0
-    → SeatAgrees o opening es i (cleared purse-of (getD seats i noSeat)) → SeatAgrees o opening es i (getD (map (cleared purse-of) seats) i noSeat)
+listed : (o : Options) (opening : List ℕ) (es : List Entry) (purse-of : Seat → ℕ) (seats : List Seat) (i : ℕ) → purse-of missingSeat ≡ 0
+    → SeatAgrees o opening es i (cleared purse-of (getD seats i missingSeat)) → SeatAgrees o opening es i (getD (map (cleared purse-of) seats) i missingSeat)
 unfolding laid prizes
 listed o opening es purse-of seats i none a =
     record {
-      stake-is = view-map stake (cleared purse-of) seats i noSeat refl ∙ a .stake-is;
-      insurance-is = view-map insurance (cleared purse-of) seats i noSeat refl ∙ a .insurance-is;
-      hands-are = view-map hands (cleared purse-of) seats i noSeat refl ∙ a .hands-are;
-      laid-is = view-map laid (cleared purse-of) seats i noSeat refl ∙ a .laid-is;
-      prizes-are = view-map (prizes o) (cleared purse-of) seats i noSeat refl ∙ a .prizes-are;
-      purse-is = ap pos (view-map purse (cleared purse-of) seats i noSeat none) ∙ a .purse-is;
+      stake-is = view-map stake (cleared purse-of) seats i missingSeat refl ∙ a .stake-is;
+      insurance-is = view-map insurance (cleared purse-of) seats i missingSeat refl ∙ a .insurance-is;
+      hands-are = view-map hands (cleared purse-of) seats i missingSeat refl ∙ a .hands-are;
+      laid-is = view-map laid (cleared purse-of) seats i missingSeat refl ∙ a .laid-is;
+      prizes-are = view-map (prizes o) (cleared purse-of) seats i missingSeat refl ∙ a .prizes-are;
+      purse-is = ap pos (view-map purse (cleared purse-of) seats i missingSeat none) ∙ a .purse-is;
     }
 
 module _ (opening : List ℕ) (es : List Entry) (t : Table) (e : Entry) (tray : ℕ) (purse-of : Seat → ℕ) (shoe : Shoe) (k : ℕ) (cards : List ℕ) where
@@ -143,7 +143,7 @@ module _ (opening : List ℕ) (es : List Entry) (t : Table) (e : Entry) (tray : 
               dealt = sym (simp (q .is-end));
               seats = λ i.
                   listed (t .options) opening (e ∷ es) purse-of (t .seats) i
-                  (end .nothing-stays noSeat (record { no-purse = refl; no-stake = refl; no-insurance = refl; no-hands = refl }))
+                  (end .nothing-stays missingSeat (record { no-purse = refl; no-stake = refl; no-insurance = refl; no-hands = refl }))
                   (end-seat (t .options) opening es i e q purse-of (seatAt t i) (call .purses i));
               balance =
                   simp (q .no-fill, q .no-buy, q .no-credit, q .no-cash)

@@ -10,7 +10,7 @@ use lib.Seq.{getD-set-same, getD-set-other}
 use Rattle.table.specs.declared.Seat.{Seat}
 use Rattle.table.specs.declared.Shoe.{Shoe}
 use Rattle.table.specs.declared.Table.{Table}
-use Rattle.table.specs.Seat.{noSeat}
+use Rattle.table.specs.Seat.{missingSeat}
 use Rattle.table.specs.Shoe.{isFresh}
 use Rattle.table.specs.Table.{makeTable, seatAt}
 use Rattle.table.specs.Money.{allMoney}
@@ -19,7 +19,7 @@ use Rattle.table.proofs.SeatChange.{SeatChange, change-shaped, change-sound}
 use Rattle.history.specs.Entry.{Entry, isOf, isDeal, isEnd, isLoad, isFill, isCredit, isBuy, isCash, amountOf}
 use Rattle.history.specs.Rounds.{stakedBelow}
 use Rattle.history.specs.Cards.{Cards, makeCards, callTakes, bankAfter, cardsAfter, cardsOfHistory}
-use Rattle.agreement.specs.Agrees.{SeatAgrees, CardsAgree, Agrees, Good}
+use Rattle.agreement.specs.Aids.Agrees.{SeatAgrees, CardsAgree, Agrees, Good}
 use Rattle.agreement.proofs.Quiet.{other-seat}
 
 module _ (opening : List ℕ) (es : List Entry) (t : Table) (e : Entry) (j tray : ℕ) (s : Seat) (shoe : Shoe) (k : ℕ) where
@@ -65,9 +65,9 @@ module _ (opening : List ℕ) (es : List Entry) (t : Table) (e : Entry) (j tray 
       each : (i : ℕ) → Dec (i ≡ j) → SeatAgrees (t .options) opening (e ∷ es) i (seatAt after i)
       each i (yes same) =
           subst (λ (n : ℕ). SeatAgrees (t .options) opening (e ∷ es) n (seatAt after n)) (sym same)
-          (rw (getD-set-same (t .seats) j s noSeat (omega arith)) (call .seat))
+          (rw (getD-set-same (t .seats) j s missingSeat (omega arith)) (call .seat))
       each i (no other) =
-          rw (getD-set-other (t .seats) j i s noSeat other)
+          rw (getD-set-other (t .seats) j i s missingSeat other)
           (other-seat (t .options) opening es i e (call .not-end) (call .not-deal) (call .of-other i other) (seatAt t i) (a .seats i))
 
   -- such a call keeps the table good

@@ -10,7 +10,7 @@ use Rattle.lists.proofs.Differences.{Diff, diff-pos, diff-add, diff-sub, diff-i
 use Rattle.options.specs.declared.Options.{Options}
 use Rattle.history.specs.Entry.{Entry, isOf, isBuy, isCash, isEnd, isClose, isVoid, amountOf}
 use Rattle.history.specs.Rounds.{stakeIn}
-use Rattle.history.specs.Money.{lays, laidEver, prizesEver, prizeOf, bought, cashed, ended, endedBy, purseOf}
+use Rattle.history.specs.Money.{lays, laidEver, prizesEver, prizeOf, bought, cashed, endsBrought, endBrings, purseOf}
 
 -- what the ended rounds come to, from the purse and the rest
 rounds : (x b c l p : ℕ) (E : ℤ) → pos x ≡ pos b -ℤ pos c -ℤ pos l +ℤ pos p +ℤ E → Diff E (x + (0 + c + l + 0)) (0 + (b + 0 + 0 + p))
@@ -37,4 +37,4 @@ purse-moves o opening es i e not-end x next p h =
     let (close, void) = or-eq-false (isClose e) (isVoid e) not-end in
     purse-law x next (bought es i) (cashed es i) (laidEver es i) (prizesEver o opening es i)
     (cond (isBuy e && isOf i e) (amountOf e) 0) (cond (isCash e && isOf i e) (amountOf e) 0) (lays i (stakeIn es i) e) (prizeOf o opening es i e)
-    (ended o opening es i) (endedBy o opening es i e) 0 0 (simp (close, void) (diff-pos 0)) p (omega arith)
+    (endsBrought o opening es i) (endBrings o opening es i e) 0 0 (simp (close, void) (diff-pos 0)) p (omega arith)

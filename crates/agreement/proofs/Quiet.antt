@@ -18,7 +18,7 @@ use Rattle.history.specs.Rounds.{stakeIn, insuranceIn}
 use Rattle.history.specs.Cards.{cardsAfter, callTakes, bankAfter, cardsOfHistory}
 use Rattle.history.specs.Hands.{handsAfter, handsIn, decide}
 use Rattle.history.specs.Money.{lays, wins, laidIn, prizesIn, purseOf, prizeOf}
-use Rattle.agreement.specs.Agrees.{SeatAgrees}
+use Rattle.agreement.specs.Aids.Agrees.{SeatAgrees}
 use Rattle.agreement.proofs.Purse.{purse-moves}
 
 module _ (o : Options) (opening : List ℕ) (es : List Entry) (i : ℕ) (e : Entry) (not-end : isEnd e ≡ false) (not-deal : isDeal e ≡ false) (not-of : isOf i e ≡ false) where

@@ -2,4 +2,4 @@
 pub mod Outcome
 -- What a step gives back.
 pub mod Settlement
-pub mod Stepped
+pub mod Reply

@@ -3,7 +3,7 @@ pub mod outcome;
 
 ghost use mathlib.Core.Path.{_≡_};
 ghost use Rattle.answer.specs.Settlement.{emptyLines, withLine, emptySettlement};
-ghost use Rattle.answer.specs.Stepped.{plainStep};
+ghost use Rattle.answer.specs.Reply.{plainReply};
 use crate::outcome::Outcome;
 use call::HAND;
 use call::PayLine;
@@ -29,7 +29,7 @@ pub struct Answer {
     pub settlement: Settlement,
 }
 
-pub struct Stepped {
+pub struct Reply {
     pub answer: Answer,
     pub table: Table,
 }
@@ -74,12 +74,12 @@ fn empty_settlement() -> Settlement
 }
 
 // The step of a call that shows nothing.
-pub fn plain_step(o: Outcome) -> Stepped
-    ensures { λ r. ⌜ r ≡ plainStep o ⌝ }
+pub fn plain_reply(o: Outcome) -> Reply
+    ensures { λ r. ⌜ r ≡ plainReply o ⌝ }
 {
     let settlement = empty_settlement();
     let table = o.table;
-    Stepped {
+    Reply {
         answer: Answer {
             number: o.number,
             settlement,

@@ -3,7 +3,7 @@ mod checksum;
 mod house;
 mod plan;
 
-use answer::Stepped;
+use answer::Reply;
 use cashier::opening::opening;
 use engine::step;
 use libc::STDOUT_FILENO;
@@ -27,7 +27,7 @@ fn opened(p: Plan) -> Table {
 }
 
 // One call of the plan. The order is lent to each of them, and only a load reads it.
-fn stepped(p: Plan, t: Table, cards: [u8; 416]) -> Stepped {
+fn reply_to(p: Plan, t: Table, cards: [u8; 416]) -> Reply {
     let n = house::cards_of(p.decks);
     step(t, plan::chosen(p), &cards[..n])
 }
@@ -46,7 +46,7 @@ fn played(calls: u64) -> u64 {
         if p.stage == plan::LOAD {
             cards = house::order_of(p.decks, p.seed);
         }
-        let s = stepped(p, t, cards);
+        let s = reply_to(p, t, cards);
         let answer = s.answer;
         t = s.table;
         sum = checksum::of_step(sum, answer, t);

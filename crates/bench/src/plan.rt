@@ -2,7 +2,7 @@
 // too short is loaded anew, and a round that cannot be closed is void, as is every tenth.
 use call::At;
 use call::Call;
-use state::turns::turn_seat;
+use state::turn::seat_in_turn;
 use table::Table;
 
 pub const FILL: u8 = 0;
@@ -141,7 +141,7 @@ fn round_ended(p: Plan) -> Plan {
 fn decided(p: Plan, number: u8, t: Table) -> Plan {
     let mut next = p;
     next.refused = number != 0;
-    next.turn = (turn_seat(t) % 10) as u8;
+    next.turn = (seat_in_turn(t) % 10) as u8;
     if next.turn < 9 {
         return next;
     }

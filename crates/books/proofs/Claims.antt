@@ -11,7 +11,7 @@ use Rattle.lists.specs.Sum.{sum, isIt}
 use Rattle.lists.proofs.Sums.{sum-append}
 use Rattle.lists.proofs.Differences.{diff-pos, diff-sub, diff-is}
 use Rattle.table.specs.declared.Table.{Table}
-use Rattle.table.specs.Seat.{noSeat, hands}
+use Rattle.table.specs.Seat.{missingSeat, hands}
 use Rattle.table.specs.Table.{seatAt, handCards, bankCards, isDealt, tableOrder, tableShoe, tableDrawn, tableDiscards}
 use Rattle.table.specs.Money.{allMoney}
 use Rattle.table.specs.Broken.{sound}
@@ -19,7 +19,7 @@ use Rattle.table.proofs.Facts.{facts-sound, no-hands, cards-left}
 use Rattle.history.specs.Entry.{Entry}
 use Rattle.history.specs.Rounds.{isDealtRound}
 use Rattle.history.specs.Money.{cameIn, wentOut}
-use Rattle.agreement.specs.Agrees.{Good}
+use Rattle.agreement.specs.Aids.Agrees.{Good}
 use Rattle.cashier_spec.proofs.Loads.{no-hand}
 use Rattle.books.specs.Books.{Claim}
 
@@ -35,7 +35,7 @@ module _ (opening : List ℕ) (es : List Entry) (t : Table) (g : Good opening es
   no-seat-hands e i = go (decLe 9 i)
     where
       go : Dec (9 ≤ i) → hands (seatAt t i) ≡ []
-      go (yes h) = rw (List·getD-eq-default (t .seats) noSeat {n = i} (omega (arith, g .shaped .nine-seats))) refl
+      go (yes h) = rw (List·getD-eq-default (t .seats) missingSeat {n = i} (omega (arith, g .shaped .nine-seats))) refl
       go (no h) = no-hands (seatAt t i) (no-hand t i (omega arith) (g .sound) (none-dealt e))
 
   -- the order in two: what is drawn and what is left

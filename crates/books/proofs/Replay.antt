@@ -5,7 +5,7 @@ use mathlib.Core.List.{List, [], _∷_, reverse, reverseAux, reverseAux-reverseA
 use lib.Dec.{eqb}
 use Rattle.table.specs.declared.Table.{Table}
 use Rattle.history.specs.Entry.{Entry}
-use Rattle.answer.specs.Stepped.{stepped}
+use Rattle.answer.specs.Reply.{replyBy}
 use Rattle.engine.specs.Step.{number, next, step}
 use Rattle.engine.specs.Run.{run, accepted}
 use Rattle.books.specs.Laws.{Replayed}
@@ -20,7 +20,7 @@ kept t (e ∷ es) = cond (isAccepted t e) (e ∷ kept (next t (e .call) (e .orde
 
 -- a refused call leaves the table as it was
 refused-next : (t : Table) (e : Entry) → isAccepted t e ≡ false → next t (e .call) (e .order) ≡ t
-unfolding next number step stepped
+unfolding next number step replyBy
 refused-next t e refused = simp refused
 
 -- they are the accepted ones, turned round before those already known

@@ -7,9 +7,9 @@ use Rattle.call.specs.declared.Call.the-variants.{Fill, Credit, Buy, Cash, Stak
 use Rattle.call.specs.Refusal.{first}
 use Rattle.table.specs.declared.Table.{Table}
 use Rattle.table.specs.Shape.{Shaped}
-use Rattle.table.specs.Sound.{Sound}
+use Rattle.table.specs.Aids.Sound.{Sound}
 use Rattle.history.specs.Entry.{Entry, entry}
-use Rattle.agreement.specs.Agrees.{Good}
+use Rattle.agreement.specs.Aids.Agrees.{Good}
 use Rattle.cashier_spec.specs.Fill.{fillEffect}
 use Rattle.cashier_spec.specs.Credit.{creditEffect}
 use Rattle.cashier_spec.specs.Buy.{buyEffect}
@@ -20,9 +20,9 @@ use Rattle.cashier_spec.proofs.Tray.{fill-kept, fill-good, credit-kept, credit-
 use Rattle.cashier_spec.proofs.Loads.{load-kept, load-good}
 use Rattle.cashier_spec.proofs.Purses.{buy-kept, buy-good, cash-kept, cash-good, stake-kept, stake-good}
 use Rattle.deal_spec.specs.Deal.{dealEffect}
-use Rattle.deal_spec.specs.Void.{voidEffect}
+use Rattle.close_spec.specs.Void.{voidEffect}
 use Rattle.deal_spec.proofs.Deal.{deal-kept, deal-good}
-use Rattle.deal_spec.proofs.Void.{void-kept, void-good}
+use Rattle.close_spec.proofs.Void.{void-kept, void-good}
 use Rattle.decision_spec.specs.Insure.{insureEffect}
 use Rattle.decision_spec.specs.Surrender.{surrenderEffect}
 use Rattle.decision_spec.specs.Turn.{endEffect}

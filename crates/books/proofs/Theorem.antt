@@ -8,10 +8,10 @@ use borrow.Author.Tests.{eqb-true}
 use Rattle.options.specs.declared.Options.{Options}
 use Rattle.table.specs.declared.Table.{Table}
 use Rattle.history.specs.Entry.{Entry}
-use Rattle.agreement.specs.Agrees.{Good}
+use Rattle.agreement.specs.Aids.Agrees.{Good}
 use Rattle.cashier_spec.specs.Opening.{openNumber, opened}
 use Rattle.cashier_spec.proofs.Opens.{open-good, accepted-table}
-use Rattle.answer.specs.Stepped.{stepped}
+use Rattle.answer.specs.Reply.{replyBy}
 use Rattle.engine.specs.Step.{number, effect, next, step}
 use Rattle.engine.specs.Run.{run, accepted}
 use Rattle.books.specs.Books.{Claim, Books}
@@ -23,7 +23,7 @@ abbrev known : Table → Entry → List Entry → List Entry
 known t e es = cond (eqb (number t (e .call) (e .order)) 0) (e ∷ es) es
 
 next-good : (opening : List ℕ) (es : List Entry) (t : Table) (e : Entry) → Good opening es t → Good opening (known t e es) (next t (e .call) (e .order))
-unfolding next number step stepped
+unfolding next number step replyBy
 next-good opening es t e g = go (eqb (number t (e .call) (e .order)) 0) refl
   where
     go : (b : Bool) → eqb (number t (e .call) (e .order)) 0 ≡ b → Good opening (cond b (e ∷ es) es) (cond b (effect t (e .call) (e .order)) t)
@@ -31,7 +31,7 @@ next-good opening es t e g = go (eqb (number t (e .call) (e .order)) 0) refl
     go false refuse = g
 
 next-options : (t : Table) (e : Entry) → next t (e .call) (e .order) .options ≡ t .options
-unfolding next number step stepped
+unfolding next number step replyBy
 next-options t e = go (eqb (number t (e .call) (e .order)) 0)
   where
     go : (b : Bool) → cond b (effect t (e .call) (e .order)) t .options ≡ t .options

@@ -1,2 +1,3 @@
 -- What the pass over the seats gives.
-pub mod OfSeats
+-- What only proofs and the contracts of private functions cite: nothing here has to be believed.
+pub mod Aids

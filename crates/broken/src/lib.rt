@@ -1,6 +1,6 @@
 // Number 1: whether a table is broken (docs/BROKEN.md). Any table value is taken: counts past their arrays, sums that would not fit, bytes
 // that are no card, codes out of range.
-pub mod playable;
+pub mod hand;
 pub mod seat;
 
 ghost use mathlib.Core.Path.{_≡_};
@@ -8,10 +8,10 @@ ghost use mathlib.Core.Bool.{_&&_};
 ghost use Rattle.lists.specs.Below.{allBelow};
 ghost use Rattle.table.specs.Broken.{seatSound, soundBank, soundMoney, sound as isSound, broken as isBroken};
 ghost use Rattle.money.specs.Sums.{tableSums};
-ghost use Rattle.broken.specs.OfSeats.{OfSeats};
+ghost use Rattle.broken.specs.Aids.OfSeats.{OfSeats};
 use crate::seat::sound_seat;
 use card_count::conserved::cards_conserved;
-use money::limits::over_limit;
+use money::most_money::past_most_money;
 use money::sums::Sums;
 use money::sums::plus;
 use money::sums::seat_sums;
@@ -65,7 +65,7 @@ fn money_sound(t: Table, m: Sums) -> bool
     requires { ⌜ m ≡ tableSums t ⌝ }
     ensures { λ r. ⌜ r ≡ soundMoney t ⌝ }
 {
-    if over_limit(t.tray, m, 0) {
+    if past_most_money(t.tray, m, 0) {
         return false;
     }
     if !is_dealt(t) {

@@ -8,8 +8,8 @@ pub record Shown : Type 0 where
   pub bank : List ℕ
   pub lines : List PayLine
 
-abbrev pub nothing : Shown
-nothing = record { bank = []; lines = [] }
+abbrev pub emptyShown : Shown
+emptyShown = record { bank = []; lines = [] }
 
 -- The number and what is shown.
 pub record Answer : Type 0 where

@@ -5,16 +5,16 @@ ghost use mathlib.Core.Path.{_≡_};
 ghost use mathlib.Core.Bool.{_&&_};
 ghost use Rattle.table.specs.Shoe.{validOrder, orderOf};
 ghost use Rattle.table.specs.Broken.{soundShoe, soundFaces};
-ghost use Rattle.card_count.specs.Left.{Within, Left, OfValid};
+ghost use Rattle.card_count.specs.Aids.Left.{OrderFits, Left, OfValid};
 use crate::counters::count;
 use crate::counters::each_face;
-use crate::tallies::count_out;
+use crate::out_cards::count_out;
 use table::Shoe;
 use table::Table;
 
 // The cards that are left, counted.
 fn left_counts(decks: u8, sh: Shoe) -> [u16; 256]
-    requires { ⌜ Within decks sh ⌝ }
+    requires { ⌜ OrderFits decks sh ⌝ }
     ensures { λ r. ⌜ Left r decks sh ⌝ }
 {
     let order = sh.order;

@@ -3,12 +3,12 @@ ghost use mathlib.Core.Path.{_≡_};
 ghost use lib.Dec.{eqb};
 ghost use lib.ListN.{length, getD};
 ghost use Rattle.lists.specs.Below.{allBelow};
-ghost use Rattle.card_count.specs.Tally.{tally, Room};
+ghost use Rattle.card_count.specs.Aids.Counters.{countedAll, Room};
 
 // Each card adds one to the counter of its byte.
 pub fn count(of: &mut [u16; 256], cards: &[u8])
     requires { ⌜ Room (now of) (length (now cards)) ⌝ }
-    ensures { λ _. ⌜ now (of .exit) ≡ tally (now (of .entry)) (now (cards .entry)) ⌝ }
+    ensures { λ _. ⌜ now (of .exit) ≡ countedAll (now (of .entry)) (now (cards .entry)) ⌝ }
 {
     let n = cards.len();
     for i in 0usize..n {

@@ -1,5 +1,5 @@
 // card_count: counters, tallies, faces, conserved.
 pub mod conserved;
 pub mod counters;
-pub mod faces;
-pub mod tallies;
+pub mod out_cards;
+pub mod valid_order;

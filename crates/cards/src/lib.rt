@@ -3,5 +3,5 @@ pub mod card;
 pub mod hand;
 pub mod natural;
 pub mod pair;
-pub mod prize;
+pub mod prize_hand;
 pub mod total;

@@ -7,11 +7,11 @@ use crate::between::between_number;
 use answer::outcome::Outcome;
 use broken::broken;
 use call::At;
-use money::limits::over_limit;
+use money::most_money::past_most_money;
 use money::sums::table_sums;
-use state::seat_at::seat_of;
-use state::seats::with_purse;
-use state::seats::with_seat;
+use state::seat::seat_at;
+use state::seat::with_purse;
+use state::seat::with_seat;
 use table::Table;
 
 fn buy_number(t: Table, at: At, n: u64) -> u8
@@ -24,7 +24,7 @@ fn buy_number(t: Table, at: At, n: u64) -> u8
     if n == 0 {
         return 14;
     }
-    if over_limit(t.tray, table_sums(t), n) {
+    if past_most_money(t.tray, table_sums(t), n) {
         return 14;
     }
     0
@@ -38,7 +38,7 @@ pub fn buy(t: Table, at: At, n: u64) -> Outcome
         return Outcome { number, table: t };
     }
     let j = at.seat as usize;
-    let s = seat_of(t, j);
+    let s = seat_at(t, j);
     let money = s.money;
     let next = with_purse(s, money.purse + n);
     Outcome {

@@ -7,9 +7,9 @@ use crate::between::between_number;
 use answer::outcome::Outcome;
 use broken::broken;
 use call::At;
-use state::seat_at::seat_of;
-use state::seats::with_purse;
-use state::seats::with_seat;
+use state::seat::seat_at;
+use state::seat::with_purse;
+use state::seat::with_seat;
 use table::Table;
 
 fn cash_number(t: Table, at: At, n: u64) -> u8
@@ -22,7 +22,7 @@ fn cash_number(t: Table, at: At, n: u64) -> u8
     if n == 0 {
         return 14;
     }
-    let s = seat_of(t, at.seat as usize);
+    let s = seat_at(t, at.seat as usize);
     let money = s.money;
     if money.purse < n {
         return 15;
@@ -38,7 +38,7 @@ pub fn cash(t: Table, at: At, n: u64) -> Outcome
         return Outcome { number, table: t };
     }
     let j = at.seat as usize;
-    let s = seat_of(t, j);
+    let s = seat_at(t, j);
     let money = s.money;
     let next = with_purse(s, money.purse - n);
     Outcome {

@@ -5,7 +5,7 @@ ghost use Rattle.answer.specs.Outcome.{outcome};
 ghost use Rattle.cashier_spec.specs.Fill.{fillConditions, fillEffect};
 use answer::outcome::Outcome;
 use broken::broken;
-use money::limits::over_limit;
+use money::most_money::past_most_money;
 use money::sums::table_sums;
 use state::round::is_dealt;
 use table::Table;
@@ -22,7 +22,7 @@ fn fill_number(t: Table, n: u64) -> u8
     if n == 0 {
         return 14;
     }
-    if over_limit(t.tray, table_sums(t), n) {
+    if past_most_money(t.tray, table_sums(t), n) {
         return 14;
     }
     0

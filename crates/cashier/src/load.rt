@@ -7,7 +7,7 @@ ghost use Rattle.answer.specs.Outcome.{outcome};
 ghost use Rattle.cashier_spec.specs.Load.{loadConditions, loadEffect};
 use answer::outcome::Outcome;
 use broken::broken;
-use card_count::faces::valid_order;
+use card_count::valid_order::valid_order;
 use shoe::new_shoe;
 use state::round::is_dealt;
 use table::Shoe;

@@ -8,13 +8,13 @@ ghost use Rattle.table.specs.Table.{makeTable};
 ghost use Rattle.answer.specs.Outcome.{outcome};
 ghost use Rattle.cashier_spec.specs.Opening.{openConditions, openTable, emptyTable};
 use answer::outcome::Outcome;
-use card_count::faces::valid_order;
+use card_count::valid_order::valid_order;
 use cards::hand::empty_hand;
 use options::Options;
 use options::in_range;
 use shoe::new_shoe;
-use state::blank::empty_seat;
-use state::blank::no_options;
+use state::empty::empty_seat;
+use state::empty::no_options;
 use table::Shoe;
 use table::Table;
 

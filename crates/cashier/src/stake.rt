@@ -9,9 +9,9 @@ use crate::between::between_number;
 use answer::outcome::Outcome;
 use broken::broken;
 use call::At;
-use money::amounts::stake_permitted;
-use state::seat_at::seat_of;
-use state::seats::with_seat;
+use options::permitted::stake_permitted;
+use state::seat::seat_at;
+use state::seat::with_seat;
 use table::Seat;
 use table::Table;
 
@@ -36,7 +36,7 @@ fn stake_number(t: Table, at: At, n: u64) -> u8
     if early != 0 {
         return early;
     }
-    let s = seat_of(t, at.seat as usize);
+    let s = seat_at(t, at.seat as usize);
     let money = s.money;
     if 0 < money.stake {
         return 9;
@@ -61,7 +61,7 @@ pub fn stake(t: Table, at: At, n: u64) -> Outcome
         return Outcome { number, table: t };
     }
     let j = at.seat as usize;
-    let s = seat_of(t, j);
+    let s = seat_at(t, j);
     Outcome {
         number,
         table: with_seat(t, j, staked(s, n)),

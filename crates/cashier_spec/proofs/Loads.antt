@@ -18,17 +18,17 @@ use Rattle.call.specs.Refusal.{first}
 use Rattle.call.proofs.Refusals.{accepted-at}
 use Rattle.table.specs.declared.Seat.{Seat}
 use Rattle.table.specs.declared.Table.{Table}
-use Rattle.table.specs.Seat.{noSeat, seatCards}
+use Rattle.table.specs.Seat.{missingSeat, seatCards}
 use Rattle.table.specs.Shoe.{validOrder, newShoe}
 use Rattle.table.specs.Table.{withShoe, seatAt, isDealt, bankCards}
 use Rattle.table.specs.Faces.{outCards}
 use Rattle.table.specs.Shape.{Shaped}
-use Rattle.table.specs.Sound.{Sound}
+use Rattle.table.specs.Aids.Sound.{Sound}
 use Rattle.table.proofs.Facts.{decks-416, unbroken, sound-options}
 use Rattle.table.proofs.SeatChange.{sum-out}
 use Rattle.history.specs.Entry.{Entry, entry}
 use Rattle.history.specs.Cards.{cardsAfter}
-use Rattle.agreement.specs.Agrees.{Good}
+use Rattle.agreement.specs.Aids.Agrees.{Good}
 use Rattle.agreement.proofs.Quiet.{house, house-seat}
 use Rattle.cashier_spec.specs.Load.{loadConditions, loadEffect}
 
@@ -69,7 +69,7 @@ nothing-out : (t : Table) (order : List ℕ) → Shaped t → Sound t → isDeal
 unfolding sum
 nothing-out t order shaped s none w =
     let nine = shaped .nine-seats in
-    let hands = sum-none (λ x. sum w (seatCards x)) (t .seats) noSeat (λ i l. no-cards w (seatAt t i) (no-hand t i (omega arith) s none)) in
+    let hands = sum-none (λ x. sum w (seatCards x)) (t .seats) missingSeat (λ i l. no-cards w (seatAt t i) (no-hand t i (omega arith) s none)) in
     let bank = no-bank w (bankCards t) (omega (arith, ltb-false 0 (length (bankCards t)) none)) in
     omega (arith, sum-out (withShoe t (newShoe order)) w, hands, bank)
 

@@ -17,20 +17,20 @@ use Rattle.options.specs.declared.Options.{Options}
 use Rattle.options.specs.Ranges.{inRange}
 use Rattle.options.proofs.Facts.{in-range-facts}
 use Rattle.rules.specs.declared.seat_hand.SeatHand.{SeatHand}
-use Rattle.table.specs.Seat.{emptySeat, noSeat, noPlace, emptyPlace, laid, prizes}
+use Rattle.table.specs.Seat.{emptySeat, missingSeat, missingPlace, emptyPlace, laid, prizes}
 use Rattle.table.specs.Shoe.{validOrder}
 use Rattle.table.specs.Table.{seatAt, isDealt, up}
 use Rattle.table.specs.Shape.{Shaped, ShapedSeat}
-use Rattle.table.specs.Sound.{Sound, SoundSeat}
-use Rattle.agreement.specs.Agrees.{SeatAgrees, Agrees, Good}
+use Rattle.table.specs.Aids.Sound.{Sound, SoundSeat}
+use Rattle.agreement.specs.Aids.Agrees.{SeatAgrees, Agrees, Good}
 use Rattle.cashier_spec.specs.Opening.{openConditions, openNumber, openTable, opened}
 use Rattle.cashier_spec.proofs.Loads.{valid-length, loaded, loaded-length}
 
-empty-at : (i : ℕ) → i < 9 → getD (replicate 9 emptySeat) i noSeat ≡ emptySeat
-empty-at i h = getD-replicate 9 i emptySeat noSeat h
+empty-at : (i : ℕ) → i < 9 → getD (replicate 9 emptySeat) i missingSeat ≡ emptySeat
+empty-at i h = getD-replicate 9 i emptySeat missingSeat h
 
 empty-shaped : ShapedSeat emptySeat
-empty-shaped = record { four-places = refl; twenty-cards = λ p h. ap (λ (x : SeatHand). length (x .hand .cards)) (getD-replicate 4 p emptyPlace noPlace h) }
+empty-shaped = record { four-places = refl; twenty-cards = λ p h. ap (λ (x : SeatHand). length (x .hand .cards)) (getD-replicate 4 p emptyPlace missingPlace h) }
 
 -- a seat that holds nothing
 module _ (o : Options) (order : List ℕ) (i : ℕ) where
@@ -50,7 +50,7 @@ module _ (o : Options) (order : List ℕ) (i : ℕ) where
   unfolding prizes laid sum
   empty-agrees = record { stake-is = refl; insurance-is = refl; hands-are = refl; laid-is = refl; prizes-are = refl; purse-is = refl }
 
-  none-agrees : SeatAgrees o order [] i noSeat
+  none-agrees : SeatAgrees o order [] i missingSeat
   unfolding prizes laid sum
   none-agrees = record { stake-is = refl; insurance-is = refl; hands-are = refl; laid-is = refl; prizes-are = refl; purse-is = refl }
 
@@ -58,7 +58,7 @@ module _ (o : Options) (order : List ℕ) (i : ℕ) where
   seat-agrees = go (decLe 9 i)
     where
       go : Dec (9 ≤ i) → SeatAgrees o order [] i (seatAt (openTable o order) i)
-      go (yes h) = subst (SeatAgrees o order [] i) (sym (List·getD-eq-default (replicate 9 emptySeat) noSeat {n = i} h)) none-agrees
+      go (yes h) = subst (SeatAgrees o order [] i) (sym (List·getD-eq-default (replicate 9 emptySeat) missingSeat {n = i} h)) none-agrees
       go (no h) = subst (SeatAgrees o order [] i) (sym (empty-at i (omega arith))) empty-agrees
 
 module _ (o : Options) (order : List ℕ) (range : inRange o ≡ true) (valid : validOrder (o .decks) order ≡ true) where

@@ -19,10 +19,10 @@ use Rattle.table.specs.declared.Seat.{Seat}
 use Rattle.table.specs.declared.Table.{Table}
 use Rattle.table.specs.Seat.{money, makeSeat, purse, stake, insurance, hands}
 use Rattle.table.specs.Table.{withSeat, seatAt, isDealt, up}
-use Rattle.table.specs.Money.{limit, allMoney}
-use Rattle.table.specs.Broken.{stakePermitted}
+use Rattle.table.specs.Money.{mostMoney, allMoney}
+use Rattle.options.specs.Permitted.{stakePermitted}
 use Rattle.table.specs.Shape.{Shaped}
-use Rattle.table.specs.Sound.{Sound, SoundSeat}
+use Rattle.table.specs.Aids.Sound.{Sound, SoundSeat}
 use Rattle.table.proofs.Facts.{sound-options, laid-stake, no-prizes}
 use Rattle.table.proofs.SeatChange.{SeatChange, change-shaped, change-money, change-sound}
 use Rattle.history.specs.Entry.{Entry, entry, isKind, isOf, isFill, isCredit, isBuy, isCash, isEnd, amountOf}
@@ -30,7 +30,7 @@ use Rattle.history.specs.Rounds.{stakeIn}
 use Rattle.history.specs.Cards.{callTakes}
 use Rattle.history.specs.Hands.{handsAfter, decide, handsIn}
 use Rattle.history.specs.Money.{lays, wins, prizeOf}
-use Rattle.agreement.specs.Agrees.{SeatAgrees, Good}
+use Rattle.agreement.specs.Aids.Agrees.{SeatAgrees, Good}
 use Rattle.agreement.proofs.Purse.{purse-moves}
 use Rattle.agreement.proofs.Quiet.{none-of}
 use Rattle.agreement.proofs.OneSeat.{one-call}
@@ -51,7 +51,7 @@ record Between (t : Table) (j p S came went : ℕ) : Type 0 where
   none : isDealt t ≡ false
   fits : 0 < S → stakePermitted (t .options) S ≡ true
   pays : p + went + S ≡ purse (seatAt t j) + came + stake (seatAt t j)
-  in-limit : allMoney t + came ≤ limit + went
+  in-limit : allMoney t + came ≤ mostMoney + went
 
 module _ (t : Table) (j p S came went : ℕ) (shaped : Shaped t) (sound : Sound t) (b : Between t j p S came went) where
   j<9 : j < 9

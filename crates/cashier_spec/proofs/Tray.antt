@@ -12,17 +12,17 @@ use Rattle.call.specs.Refusal.{first}
 use Rattle.call.proofs.Refusals.{accepted-at}
 use Rattle.table.specs.declared.Table.{Table}
 use Rattle.table.specs.Table.{withTray, seatAt, isDealt}
-use Rattle.table.specs.Money.{limit, allMoney}
+use Rattle.table.specs.Money.{mostMoney, allMoney}
 use Rattle.table.specs.Shape.{Shaped}
-use Rattle.table.specs.Sound.{Sound}
+use Rattle.table.specs.Aids.Sound.{Sound}
 use Rattle.history.specs.Entry.{Entry, entry, isFill, isCredit, isBuy, isCash, isLoad, amountOf}
-use Rattle.agreement.specs.Agrees.{Agrees, Good}
+use Rattle.agreement.specs.Aids.Agrees.{Agrees, Good}
 use Rattle.agreement.proofs.Quiet.{House, house, house-seat, house-cards}
 use Rattle.cashier_spec.specs.Fill.{fillConditions, fillEffect}
 use Rattle.cashier_spec.specs.Credit.{creditConditions, creditEffect}
 
 -- another tray outside a round, with all money within the limit
-tray-sound : (t : Table) (tray : ℕ) → Sound t → isDealt t ≡ false → allMoney (withTray t tray) ≤ limit → Sound (withTray t tray)
+tray-sound : (t : Table) (tray : ℕ) → Sound t → isDealt t ≡ false → allMoney (withTray t tray) ≤ mostMoney → Sound (withTray t tray)
 tray-sound t tray s none most =
     record {
       options = s .options;
@@ -56,9 +56,9 @@ tray-agrees opening es t tray e q no-load a money =
     }
 
 -- an accepted fill keeps all money within the limit
-pub fill-within : (t : Table) (n : ℕ) → first (fillConditions t n) ≡ 0 → allMoney t + n ≤ limit
+pub fill-within : (t : Table) (n : ℕ) → first (fillConditions t n) ≡ 0 → allMoney t + n ≤ mostMoney
 unfolding fillConditions all
-fill-within t n e = ltb-false limit (allMoney t + n) (accepted-at (fillConditions t n) 3 refl e)
+fill-within t n e = ltb-false mostMoney (allMoney t + n) (accepted-at (fillConditions t n) 3 refl e)
 
 pub fill-kept : (t : Table) (n : ℕ) → Shaped t → Sound t → first (fillConditions t n) ≡ 0 → Shaped (fillEffect t n) × Sound (fillEffect t n)
 unfolding fillConditions fillEffect all

@@ -7,7 +7,7 @@ use Rattle.call.specs.Refusal.{Condition}
 use Rattle.table.specs.declared.Table.{Table}
 use Rattle.table.specs.Seat.{money, makeSeat, purse, insurance, isStaked}
 use Rattle.table.specs.Table.{withSeat, seatAt}
-use Rattle.table.specs.Broken.{stakePermitted}
+use Rattle.options.specs.Permitted.{stakePermitted}
 use Rattle.cashier_spec.specs.Between.{betweenConditions}
 
 unfoldable pub stakeConditions : Table → ℕ → ℕ → List Condition

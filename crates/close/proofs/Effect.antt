@@ -9,15 +9,15 @@ use Rattle.payment.specs.declared.bank.Score.{Score}
 use Rattle.payment.specs.Bank.{scoreOf}
 use Rattle.table.specs.declared.Shoe.{Shoe}
 use Rattle.table.specs.declared.Table.{Table}
-use Rattle.table.specs.Shoe.{drawn, discard}
+use Rattle.table.specs.Shoe.{withDrawn, discard}
 use Rattle.table.specs.Table.{makeTable, handCards}
 use Rattle.table.specs.Money.{layout}
 use Rattle.answer.specs.declared.PayLines.{PayLines}
 use Rattle.answer.specs.Settlement.{makeSettlement, linesOf}
-use Rattle.answer.specs.Stepped.{makeStep, makeStepped, stepOf}
+use Rattle.answer.specs.Reply.{makeReplyView, makeReply, viewOf}
 use Rattle.table.specs.Table.{withSeats}
 use Rattle.close_spec.specs.BankDraw.{burntAtClose, bankAtClose, closeTakes}
-use Rattle.close_spec.specs.Lines.{allLines}
+use Rattle.close_spec.specs.PayLines.{allLines}
 use Rattle.close_spec.specs.Close.{closeScore, seatBack, paidSeat, closeEffect, closeShown}
 
 -- the bank's score is that of its cards at close
@@ -30,7 +30,7 @@ pub close-is : (t u : Table) (score : Score) (laid back : ℕ) (none : Hand) (sh
     → laid ≡ layout t
     → back ≡ sum (seatBack (t .options) score) (t .seats)
     → none ≡ emptyHand
-    → shoe ≡ discard (drawn (t .shoe) (closeTakes t)) (burntAtClose t ++ handCards t ++ bankAtClose t)
+    → shoe ≡ discard (withDrawn (t .shoe) (closeTakes t)) (burntAtClose t ++ handCards t ++ bankAtClose t)
     → makeTable (u .options) (t .tray + laid - back) (u .seats) none shoe ≡ closeEffect t
 unfolding closeEffect
 close-is t u score laid back none shoe same seats lay goes empty cards = rw (seats, lay, goes, empty, cards, same)
@@ -41,6 +41,6 @@ pub settled-is : (t : Table) (bank : Hand) (score : Score) (lines : PayLines) (u
     → score ≡ scoreOf (cardsOf bank)
     → linesOf lines ≡ allLines (t .options) score 0 (t .seats)
     → u ≡ closeEffect t
-    → stepOf (makeStepped 0 (makeSettlement bank lines) u) ≡ makeStep 0 (closeShown t) (closeEffect t)
+    → viewOf (makeReply 0 (makeSettlement bank lines) u) ≡ makeReplyView 0 (closeShown t) (closeEffect t)
 unfolding closeShown
 settled-is t bank score lines u cards e shown effect = rw (shown, effect, scored t bank score cards e, cards)

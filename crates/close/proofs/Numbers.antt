@@ -9,11 +9,11 @@ use Rattle.cards.specs.declared.hand.Hand.{Hand}
 use Rattle.cards.specs.Hand.{cardsOf}
 use Rattle.payment.specs.Bank.{mustDraw}
 use Rattle.table.specs.declared.Table.{Table}
-use Rattle.table.specs.Sound.{Sound}
+use Rattle.table.specs.Aids.Sound.{Sound}
 use Rattle.close_spec.specs.BankDraw.{bankAtClose}
 use Rattle.close_spec.specs.Close.{closeConditions}
 use Rattle.close_spec.proofs.Closes.{close-dealt}
-use Rattle.close.specs.Closes.{Closes}
+use Rattle.close.specs.Aids.Closes.{Closes}
 
 module _ (t : Table) (n : ℕ) (says : first (closeConditions t) ≡ cond (eqb n 0) (cond (mustDraw (bankAtClose t)) 18 0) n) where
   pub early-refused : (n ≡ 0 → ⊥) → n ≡ first (closeConditions t)

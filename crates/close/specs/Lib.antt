@@ -1,2 +1,3 @@
 -- What the parts of an accepted close ask.
-pub mod Closes
+-- What only proofs and the contracts of private functions cite: nothing here has to be believed.
+pub mod Aids

@@ -1,16 +1,16 @@
 // The cards at the end of a close: all that were drawn become discards (document 01, "The seventeen calls").
 ghost use mathlib.Core.Path.{_≡_};
 ghost use mathlib.Core.List.{_++_};
-ghost use Rattle.table.specs.Shoe.{drawn, discard};
+ghost use Rattle.table.specs.Shoe.{withDrawn, discard};
 ghost use Rattle.table.specs.Table.{handCards};
 ghost use Rattle.close_spec.specs.BankDraw.{burntAtClose, bankAtClose, closeTakes};
-ghost use Rattle.close.specs.Closes.{Closes};
+ghost use Rattle.close.specs.Aids.Closes.{Closes};
 use crate::bank_draw::bank_burn;
 use cards::hand::Hand;
 use cards::hand::held;
-use deal::burns::burn;
+use deal::burn::burn;
 use shoe::discards::discard_hand;
-use shoe::draw_cards;
+use shoe::with_drawn;
 use shoe::gathering::discard_seats;
 use table::Shoe;
 use table::Table;
@@ -19,7 +19,7 @@ use table::Table;
 // accepted close knows.
 pub fn closed_shoe(t: Table, bank: Hand) -> Shoe
     requires { ⌜ Closes t bank ⌝ }
-    ensures { λ r. ⌜ r ≡ discard (drawn (t .shoe) (closeTakes t)) (burntAtClose t ++ handCards t ++ bankAtClose t) ⌝ }
+    ensures { λ r. ⌜ r ≡ discard (withDrawn (t .shoe) (closeTakes t)) (burntAtClose t ++ handCards t ++ bankAtClose t) ⌝ }
 {
     let o = t.options;
     let burnt = bank_burn(o);
@@ -27,5 +27,5 @@ pub fn closed_shoe(t: Table, bank: Hand) -> Shoe
     let burnt_in = burn(shoe, o.decks, burnt);
     let seats_in = discard_seats(burnt_in, t);
     let all_in = discard_hand(seats_in, bank);
-    draw_cards(all_in, burnt + held(bank) - 1)
+    with_drawn(all_in, burnt + held(bank) - 1)
 }

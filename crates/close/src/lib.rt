@@ -3,6 +3,7 @@ pub mod bank_draw;
 pub mod clearing;
 pub mod pay_lines;
 pub mod paying;
+pub mod void;
 
 ghost use mathlib.Core.Path.{_≡_};
 ghost use mathlib.Core.Bool.{cond};
@@ -10,11 +11,11 @@ ghost use lib.Dec.{eqb};
 ghost use Rattle.call.specs.Refusal.{first};
 ghost use Rattle.cards.specs.Hand.{cardsOf};
 ghost use Rattle.payment.specs.Bank.{mustDraw, scoreOf};
-ghost use Rattle.table.specs.Sound.{Sound};
+ghost use Rattle.table.specs.Aids.Sound.{Sound};
 ghost use Rattle.close_spec.specs.BankDraw.{bankAtClose};
 ghost use Rattle.close_spec.specs.Close.{closeConditions, closeEffect, closeShown};
-ghost use Rattle.answer.specs.Stepped.{makeStep, stepped, stepOf};
-ghost use Rattle.close.specs.Closes.{Closes};
+ghost use Rattle.answer.specs.Reply.{makeReplyView, replyBy, viewOf};
+ghost use Rattle.close.specs.Aids.Closes.{Closes};
 use crate::bank_draw::bank_at_close;
 use crate::clearing::closed_shoe;
 use crate::pay_lines::all_lines;
@@ -22,9 +23,9 @@ use crate::paying::paid_seats;
 use crate::paying::seats_back;
 use answer::Answer;
 use answer::Settlement;
-use answer::Stepped;
+use answer::Reply;
 use answer::outcome::Outcome;
-use answer::plain_step;
+use answer::plain_reply;
 use broken::broken;
 use cards::hand::Hand;
 use cards::hand::empty_hand;
@@ -33,7 +34,7 @@ use payment::bank::Score;
 use payment::bank::must_draw;
 use payment::bank::score_of;
 use state::round::is_dealt;
-use state::turns::turn_seat;
+use state::turn::seat_in_turn;
 use table::Table;
 
 // The numbers that do not ask for the bank's cards: 1, 5, 7.
@@ -47,7 +48,7 @@ fn early_number(t: Table) -> u8
     if !is_dealt(t) {
         return 5;
     }
-    if turn_seat(t) < 9 {
+    if seat_in_turn(t) < 9 {
         return 7;
     }
     0
@@ -68,14 +69,14 @@ fn closed(t: Table, bank: Hand, score: Score) -> Table
 }
 
 // An accepted close: its bank's cards, its lines and its table.
-fn settled(t: Table, bank: Hand) -> Stepped
+fn settled(t: Table, bank: Hand) -> Reply
     requires { ⌜ Closes t bank ⌝ }
-    ensures { λ r. ⌜ stepOf r ≡ makeStep 0 (closeShown t) (closeEffect t) ⌝ }
+    ensures { λ r. ⌜ viewOf r ≡ makeReplyView 0 (closeShown t) (closeEffect t) ⌝ }
 {
     let score = score_of(bank);
     let lines = all_lines(t, score);
     let table = closed(t, bank, score);
-    Stepped {
+    Reply {
         answer: Answer {
             number: 0,
             settlement: Settlement { bank, lines },
@@ -84,19 +85,19 @@ fn settled(t: Table, bank: Hand) -> Stepped
     }
 }
 
-pub fn close(t: Table) -> Stepped
-    ensures { λ r. ⌜ stepOf r ≡ stepped (closeConditions t) (closeShown t) (closeEffect t) t ⌝ }
+pub fn close(t: Table) -> Reply
+    ensures { λ r. ⌜ viewOf r ≡ replyBy (closeConditions t) (closeShown t) (closeEffect t) t ⌝ }
 {
     let early = early_number(t);
     if early != 0 {
-        return plain_step(Outcome {
+        return plain_reply(Outcome {
             number: early,
             table: t,
         });
     }
     let bank = bank_at_close(t);
     if must_draw(bank) {
-        return plain_step(Outcome {
+        return plain_reply(Outcome {
             number: 18,
             table: t,
         });

@@ -3,7 +3,7 @@ ghost use mathlib.Core.Path.{_≡_};
 ghost use Prim.Native.Nat.{_+_, _≤_};
 ghost use Rattle.rules.specs.SeatHand.{handsOf};
 ghost use Rattle.payment.specs.Pay.{net};
-ghost use Rattle.close_spec.specs.Lines.{handLines, insuranceLines, seatLines, allLines};
+ghost use Rattle.close_spec.specs.PayLines.{handLines, insuranceLines, seatLines, allLines};
 ghost use Rattle.answer.specs.Settlement.{linesOf, withLines};
 use answer::PayLines;
 use answer::empty_lines;

@@ -6,8 +6,8 @@ ghost use Rattle.lists.specs.Sum.{sum};
 ghost use Rattle.rules.specs.SeatHand.{handsOf};
 ghost use Rattle.payment.specs.HandPay.{handPay};
 ghost use Rattle.table.specs.Seat.{purse};
-ghost use Rattle.table.specs.Money.{limit};
-ghost use Rattle.table.specs.Sound.{Sound};
+ghost use Rattle.table.specs.Money.{mostMoney};
+ghost use Rattle.table.specs.Aids.Sound.{Sound};
 ghost use Rattle.table.specs.Table.{withSeats};
 ghost use Rattle.close_spec.specs.Close.{seatBack, paidSeat};
 use options::Options;
@@ -16,7 +16,7 @@ use payment::hand_pay::hand_pay;
 use payment::insurance::insurance_pay;
 use rules::seat_hand::SeatHands;
 use rules::seat_hand::used;
-use state::blank::empty_seat;
+use state::empty::empty_seat;
 use table::Seat;
 use table::Table;
 
@@ -61,7 +61,7 @@ pub fn seats_back(t: Table, bank: Score) -> u64
 
 // The seat without its hands, and what goes back in its purse.
 fn paid_seat(o: Options, bank: Score, s: Seat) -> Seat
-    requires { ⌜ purse s ≤ limit ⌝ }
+    requires { ⌜ purse s ≤ mostMoney ⌝ }
     ensures { λ r. ⌜ r ≡ paidSeat o bank s ⌝ }
 {
     let mut next = empty_seat();

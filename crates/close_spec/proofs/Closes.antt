@@ -24,18 +24,18 @@ use Rattle.payment.specs.HandPay.{handPay}
 use Rattle.payment.specs.Insurance.{insurancePay}
 use Rattle.table.specs.declared.Seat.{Seat}
 use Rattle.table.specs.declared.Table.{Table}
-use Rattle.table.specs.Seat.{noSeat, purse, stake, insurance, hands, laid}
-use Rattle.table.specs.Shoe.{drawn, discard, isFresh}
+use Rattle.table.specs.Seat.{missingSeat, purse, stake, insurance, hands, laid}
+use Rattle.table.specs.Shoe.{withDrawn, discard, isFresh}
 use Rattle.table.specs.Table.{seatAt, isDealt, up, tableOrder}
 use Rattle.table.specs.Money.{layout}
 use Rattle.table.specs.Shape.{Shaped}
-use Rattle.table.specs.Sound.{Sound, SoundSeat, Nothing}
+use Rattle.table.specs.Aids.Sound.{Sound, SoundSeat, HoldsNothing}
 use Rattle.table.proofs.Facts.{sound-options, dealt-drawn, no-hands}
 use Rattle.table.proofs.RoundEnd.{RoundEnd, end-shaped, end-sound}
 use Rattle.history.specs.Entry.{Entry, entry}
 use Rattle.history.specs.Cards.{makeCards, callTakes, bankTaken, bankFinal, cardsOfHistory}
 use Rattle.history.specs.Money.{closingScore, purseOf}
-use Rattle.agreement.specs.Agrees.{Good}
+use Rattle.agreement.specs.Aids.Agrees.{Good}
 use Rattle.agreement.proofs.EndOfRound.{Ends, ends, EndCall, purse-end, end-call}
 use Rattle.close_spec.specs.BankDraw.{bankAtClose, closeTakes}
 use Rattle.close_spec.specs.Close.{closeConditions, closeScore, seatBack, closeEffect}
@@ -76,7 +76,7 @@ module _ (t : Table) (shaped : Shaped t) (sound : Sound t) (e : first (closeCond
   covered : sum (seatBack o (closeScore t)) (t .seats) ≤ t .tray + layout t
   covered = tray-pays t sound (close-dealt t e) (shaped .nine-seats) (closeScore t)
 
-  nothing-paid : (s : Seat) → Nothing s → paid s ≡ 0
+  nothing-paid : (s : Seat) → HoldsNothing s → paid s ≡ 0
   unfolding seatBack insurancePay sum
   nothing-paid s n =
       omega (
@@ -87,7 +87,7 @@ module _ (t : Table) (shaped : Shaped t) (sound : Sound t) (e : first (closeCond
         cond-most (closeScore t .natural) {x = 3 * insurance s} {y = 0} {k = 3 * insurance s} (omega arith) (omega arith),
       )
 
-  end : RoundEnd t (t .tray + layout t - sum (seatBack o (closeScore t)) (t .seats)) paid (discard (drawn (t .shoe) (closeTakes t)) (closedCards t)) (closeTakes t) (closedCards t)
+  end : RoundEnd t (t .tray + layout t - sum (seatBack o (closeScore t)) (t .seats)) paid (discard (withDrawn (t .shoe) (closeTakes t)) (closedCards t)) (closeTakes t) (closedCards t)
   end =
       record {
         paid = omega (arith, covered, sum-plus purse (seatBack o (closeScore t)) (t .seats));
@@ -106,7 +106,7 @@ module _ (t : Table) (shaped : Shaped t) (sound : Sound t) (e : first (closeCond
   all-laid i = go (decLe 9 i)
     where
       go : Dec (9 ≤ i) → laid (seatAt t i) ≡ sum (wager (stake (seatAt t i))) (hands (seatAt t i)) + insurance (seatAt t i)
-      go (yes h) = rw (List·getD-eq-default (t .seats) noSeat {n = i} (omega (arith, shaped .nine-seats))) refl
+      go (yes h) = rw (List·getD-eq-default (t .seats) missingSeat {n = i} (omega (arith, shaped .nine-seats))) refl
       go (no h) = laid-wagers o (isAce (up t)) i (seatAt t i) (in-round i (omega arith)) (shaped .seats i (omega arith) .four-places) few
 
   pub close-kept : Shaped (closeEffect t) × Sound (closeEffect t)
@@ -140,7 +140,7 @@ module _ (opening : List ℕ) (es : List Entry) (t : Table) (order : List ℕ) (
       (diff-add (diff-pos (laid s)) (diff-add (nets-diff (t .options) opening (closeScore t) (stake s) (hands s)) (insurance-diff (closeScore t) (insurance s)))))
       (a .purse-is) (omega (arith, all-laid t (g .shaped) (g .sound) e i))
 
-  call : EndCall opening es t (entry Close order) (t .tray + layout t - sum (seatBack (t .options) (closeScore t)) (t .seats)) (paid t (g .shaped) (g .sound) e) (discard (drawn (t .shoe) (closeTakes t)) (closedCards t)) (closeTakes t) (closedCards t)
+  call : EndCall opening es t (entry Close order) (t .tray + layout t - sum (seatBack (t .options) (closeScore t)) (t .seats)) (paid t (g .shaped) (g .sound) e) (discard (withDrawn (t .shoe) (closeTakes t)) (closedCards t)) (closeTakes t) (closedCards t)
   unfolding callTakes
   call =
       record {

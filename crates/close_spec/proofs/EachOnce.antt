@@ -18,8 +18,8 @@ use Rattle.payment.specs.Pay.{net}
 use Rattle.payment.specs.HandPay.{handPay}
 use Rattle.payment.specs.Insurance.{insurancePay}
 use Rattle.table.specs.declared.Seat.{Seat}
-use Rattle.table.specs.Seat.{noPlace, noSeat, stake, insurance, hands}
-use Rattle.close_spec.specs.Lines.{line, handKind, insuranceKind, handLines, insuranceLines, seatLines, allLines}
+use Rattle.table.specs.Seat.{missingPlace, missingSeat, stake, insurance, hands}
+use Rattle.close_spec.specs.PayLines.{line, handKind, insuranceKind, handLines, insuranceLines, seatLines, allLines}
 use Rattle.close_spec.specs.EachOnce.{names, due, EachOnce}
 
 -- the tests in the order of the definition: a hand and an insurance are of different kinds
@@ -44,11 +44,11 @@ module _ (o : Options) (bank : Score) (seat place kind : ℕ) where
   own-insurance I = one-line (ltb 0 I) (names seat place kind) (line seat 0 insuranceKind (net (insurancePay bank I))) ∙ rw (eq-eqb seat seat refl)
 
   own-hands : (S : ℕ) (hs : List Played)
-      → those (names seat place kind) (handLines o bank S seat 0 hs) ≡ cond (ltb place (length hs)) (cond (eqb kind handKind) (line seat place handKind (net (handPay o bank S (getD hs place (playedOf noPlace)))) ∷ []) []) []
+      → those (names seat place kind) (handLines o bank S seat 0 hs) ≡ cond (ltb place (length hs)) (cond (eqb kind handKind) (line seat place handKind (net (handPay o bank S (getD hs place (playedOf missingPlace)))) ∷ []) []) []
   unfolding those handLines
   own-hands S hs =
       those-numbered (handLines o bank S seat) (λ p x. line seat p handKind (net (handPay o bank S x)) ∷ []) (λ p. refl) (λ p x xs. refl)
-      (names seat place kind) place (λ p x apart. simp (ne-eqb place p (λ e. apart (sym e)), and-false)) hs (playedOf noPlace)
+      (names seat place kind) place (λ p x apart. simp (ne-eqb place p (λ e. apart (sym e)), and-false)) hs (playedOf missingPlace)
       ∙ simp (eq-eqb seat seat refl, eq-eqb place place refl)
 
   own-seat : (s : Seat) → those (names seat place kind) (seatLines o bank seat s) ≡ due o bank seat s place kind
@@ -77,17 +77,17 @@ module _ (o : Options) (bank : Score) (seat place kind : ℕ) where
       ∙ rw (other-insurance j (insurance s) no, other-hands (stake s) j 0 (hands s) no)
 
   -- past the seats nothing is due
-  none-due : due o bank seat noSeat place kind ≡ []
+  none-due : due o bank seat missingSeat place kind ≡ []
   unfolding due
   none-due = simp (le-ltb place 0 (omega arith), and-false)
 
-  past : (seats : List Seat) (b : Bool) → ltb seat (length seats) ≡ b → cond b (due o bank seat (getD seats seat noSeat) place kind) [] ≡ due o bank seat (getD seats seat noSeat) place kind
+  past : (seats : List Seat) (b : Bool) → ltb seat (length seats) ≡ b → cond b (due o bank seat (getD seats seat missingSeat) place kind) [] ≡ due o bank seat (getD seats seat missingSeat) place kind
   past seats true e = refl
-  past seats false e = rw (List·getD-eq-default seats noSeat (ltb-false seat (length seats) e)) (sym none-due)
+  past seats false e = rw (List·getD-eq-default seats missingSeat (ltb-false seat (length seats) e)) (sym none-due)
 
 pub each-once : (o : Options) (bank : Score) (seats : List Seat) → EachOnce o bank seats
 unfolding allLines
 each-once o bank seats seat place kind =
     those-numbered (allLines o bank) (seatLines o bank) (λ i. refl) (λ i x xs. refl)
-    (names seat place kind) seat (other-seat o bank seat place kind) seats noSeat
-    ∙ rw (own-seat o bank seat place kind (getD seats seat noSeat)) (past o bank seat place kind seats (ltb seat (length seats)) refl)
+    (names seat place kind) seat (other-seat o bank seat place kind) seats missingSeat
+    ∙ rw (own-seat o bank seat place kind (getD seats seat missingSeat)) (past o bank seat place kind seats (ltb seat (length seats)) refl)

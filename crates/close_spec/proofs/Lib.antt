@@ -6,3 +6,4 @@ pub mod Taken
 pub mod Closes
 pub mod Lines
 pub mod EachOnce
+pub mod Void

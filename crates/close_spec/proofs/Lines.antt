@@ -10,7 +10,7 @@ use Rattle.rules.specs.SeatHand.{Played}
 use Rattle.payment.specs.Pay.{net}
 use Rattle.payment.specs.HandPay.{handPay}
 use Rattle.table.specs.declared.Seat.{Seat}
-use Rattle.close_spec.specs.Lines.{line, handKind, handLines, seatLines, allLines}
+use Rattle.close_spec.specs.PayLines.{line, handKind, handLines, seatLines, allLines}
 
 module _ (o : Options) (bank : Score) where
   pub hand-lines-next : (S seat k : ℕ) (hs : List Played) (d : Played) → k < length hs

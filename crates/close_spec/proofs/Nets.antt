@@ -23,8 +23,8 @@ use Rattle.payment.specs.HandPay.{handPay}
 use Rattle.payment.specs.Insurance.{insurancePay}
 use Rattle.payment.proofs.cover.Bounds.{seat-cover}
 use Rattle.table.specs.declared.Seat.{Seat}
-use Rattle.table.specs.Seat.{noPlace, stake, insurance, hands, laid, prizes, seatCover}
-use Rattle.table.specs.Sound.{SoundSeat}
+use Rattle.table.specs.Seat.{missingPlace, stake, insurance, hands, laid, prizes, seatCover}
+use Rattle.table.specs.Aids.Sound.{SoundSeat}
 use Rattle.table.proofs.Facts.{insurance-most, few-hands, most-many, hands-many, no-hands}
 use Rattle.history.specs.Money.{handNets}
 use Rattle.close_spec.specs.Close.{seatBack}
@@ -74,7 +74,7 @@ module _ (o : Options) (ace : Bool) (i : ℕ) (s : Seat) (sound : SoundSeat o tr
       go : (none : Bool) → eqb (length (hands s)) 0 ≡ none → sum (wager (stake s)) (hands s) + insurance s ≤ laid s
       go true e =
           let empty : length (hands s) ≡ 0 = eqb-true (length (hands s)) 0 e in
-          simp e (omega (arith, insured-most, sum-none (wager (stake s)) (hands s) (playedOf noPlace) (λ p h. absurd (omega arith))))
+          simp e (omega (arith, insured-most, sum-none (wager (stake s)) (hands s) (playedOf missingPlace) (λ p h. absurd (omega arith))))
       go false e = simp e (le-refl (sum (wager (stake s)) (hands s) + insurance s))
 
   -- so what goes back to it, with its prizes, is at most what it laid and its cover

@@ -13,7 +13,7 @@ use Rattle.payment.specs.Bank.{mustDraw}
 use Rattle.table.specs.declared.Table.{Table}
 use Rattle.table.specs.Shoe.{isFresh}
 use Rattle.table.specs.Table.{handCards, bankCards, isDealt, up, tableOrder, tableShoe}
-use Rattle.table.specs.Sound.{Sound}
+use Rattle.table.specs.Aids.Sound.{Sound}
 use Rattle.history.specs.Cards.{Cards, bankTaken, bankFinal}
 use Rattle.close_spec.specs.BankDraw.{bankBurn, bankTakes, burntAtClose, bankAtClose, closeTakes}
 use Rattle.close_spec.proofs.Bank.{known, bank-same, bank-enough, bank-new}

@@ -10,17 +10,17 @@ use Rattle.lists.proofs.Sums.{sum-plus, sum-at-most}
 use Rattle.cards.specs.Card.{isAce}
 use Rattle.payment.specs.declared.bank.Score.{Score}
 use Rattle.table.specs.declared.Table.{Table}
-use Rattle.table.specs.Seat.{noSeat, laid, prizes, seatCover}
+use Rattle.table.specs.Seat.{missingSeat, laid, prizes, seatCover}
 use Rattle.table.specs.Table.{seatAt, isDealt, up}
-use Rattle.table.specs.Money.{limit, layout}
-use Rattle.table.specs.Sound.{Sound, SoundSeat}
+use Rattle.table.specs.Money.{mostMoney, layout}
+use Rattle.table.specs.Aids.Sound.{Sound, SoundSeat}
 use Rattle.table.proofs.Facts.{sound-options}
 use Rattle.close_spec.specs.Close.{seatBack}
 use Rattle.close_spec.proofs.Nets.{back-most}
 
 module _ (t : Table) (sound : Sound t) where
   -- tray and layout together are within the limit
-  pub tray-limit : t .tray + layout t ≤ limit
+  pub tray-limit : t .tray + layout t ≤ mostMoney
   tray-limit = omega (arith, sound .money)
 
   module _ (dealt : isDealt t ≡ true) where
@@ -31,7 +31,7 @@ module _ (t : Table) (sound : Sound t) where
     tray-pays nine bank =
         omega (
           arith,
-          sum-at-most (λ s. seatBack (t .options) bank s + prizes (t .options) s) (λ s. laid s + seatCover s) (t .seats) noSeat
+          sum-at-most (λ s. seatBack (t .options) bank s + prizes (t .options) s) (λ s. laid s + seatCover s) (t .seats) missingSeat
               (λ i h. back-most (t .options) (isAce (up t)) i (seatAt t i) (dealt-seat i (omega arith)) (sound-options t sound .hands-most) bank),
           sum-plus (seatBack (t .options) bank) (prizes (t .options)) (t .seats),
           sum-plus laid seatCover (t .seats),

@@ -14,13 +14,13 @@ use Rattle.payment.specs.HandPay.{handPay}
 use Rattle.payment.specs.Insurance.{insurancePay}
 use Rattle.table.specs.declared.Seat.{Seat}
 use Rattle.table.specs.declared.Table.{Table}
-use Rattle.table.specs.Seat.{money, makeSeat, noHands, purse, stake, insurance, hands}
-use Rattle.table.specs.Shoe.{drawn, discard}
+use Rattle.table.specs.Seat.{money, makeSeat, emptyHands, purse, stake, insurance, hands}
+use Rattle.table.specs.Shoe.{withDrawn, discard}
 use Rattle.table.specs.Table.{makeTable, seatsHands, handCards, isDealt, up}
 use Rattle.table.specs.Money.{layout}
 use Rattle.table.specs.Broken.{broken}
 use Rattle.close_spec.specs.BankDraw.{burntAtClose, bankAtClose, closeTakes}
-use Rattle.close_spec.specs.Lines.{allLines}
+use Rattle.close_spec.specs.PayLines.{allLines}
 
 -- 7 a hand waits; 18 the shoe ends before the bank's total reaches 17.
 unfoldable pub closeConditions : Table → List Condition
@@ -39,7 +39,7 @@ unfoldable pub seatBack : Options → Score → Seat → ℕ
 seatBack o bank s = sum (λ h. handPay o bank (stake s) h .back) (hands s) + insurancePay bank (insurance s) .back
 
 abbrev pub paidSeat : Options → Score → Seat → Seat
-paidSeat o bank s = makeSeat (money (purse s + seatBack o bank s) 0 0) noHands
+paidSeat o bank s = makeSeat (money (purse s + seatBack o bank s) 0 0) emptyHands
 
 -- What lay on the layout goes to the tray, what goes back comes from it. Discards: the burnt card, hands by seat and place, the bank.
 unfoldable pub closeEffect : Table → Table
@@ -47,7 +47,7 @@ closeEffect t =
     makeTable (t .options) (t .tray + layout t - sum (seatBack (t .options) (closeScore t)) (t .seats))
     (map (paidSeat (t .options) (closeScore t)) (t .seats))
     emptyHand
-    (discard (drawn (t .shoe) (closeTakes t)) (burntAtClose t ++ handCards t ++ bankAtClose t))
+    (discard (withDrawn (t .shoe) (closeTakes t)) (burntAtClose t ++ handCards t ++ bankAtClose t))
 
 -- Close returns the bank's cards and the pay lines.
 unfoldable pub closeShown : Table → Shown

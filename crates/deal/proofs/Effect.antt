@@ -8,11 +8,11 @@ use Rattle.cards.specs.declared.hand.Hand.{Hand}
 use Rattle.cards.specs.Hand.{emptyHand, withCard}
 use Rattle.table.specs.declared.Shoe.{Shoe}
 use Rattle.table.specs.declared.Table.{Table}
-use Rattle.table.specs.Shoe.{drawn, discard}
+use Rattle.table.specs.Shoe.{withDrawn, discard}
 use Rattle.table.specs.Table.{makeTable, tableShoe}
 use Rattle.deal_spec.specs.Pass.{firstCard, secondCard, pass}
 use Rattle.deal_spec.specs.Deal.{stakedSeats, burnt, dealTakes, dealtSeats, upCard, dealEffect}
-use Rattle.deal.specs.Passed.{passed}
+use Rattle.deal.specs.Aids.Passed.{passed}
 
 -- the table after both passes, with that hand and that shoe
 abbrev dealtTo : Table → Hand → Shoe → Table
@@ -39,18 +39,18 @@ module _ (t : Table) where
   abbrev parts : ℕ → ℕ → Table
   parts b s =
       dealtTo (passed false (b + s + 1) (passed true b t)) (withCard emptyHand (getD (t .shoe .order) (t .shoe .drawn + (b + s)) 0))
-      (drawn (discard (t .shoe) (take b (tableShoe t))) (dealTakes t))
+      (withDrawn (discard (t .shoe) (take b (tableShoe t))) (dealTakes t))
 
   whole : parts (burnt t) staked ≡ dealEffect t
   unfolding dealEffect
   whole =
       both-passes _ _
-      ∙ ap (λ (card : ℕ). makeTable (t .options) (t .tray) (dealtSeats t) (withCard emptyHand card) (drawn (discard (t .shoe) (take (burnt t) (tableShoe t))) (dealTakes t))) up-card
+      ∙ ap (λ (card : ℕ). makeTable (t .options) (t .tray) (dealtSeats t) (withCard emptyHand card) (withDrawn (discard (t .shoe) (take (burnt t) (tableShoe t))) (dealTakes t))) up-card
 
   pub effect : {b s card : ℕ} {once twice : Table} {bank : Hand} {shoe : Shoe}
       → b ≡ burnt t → s ≡ staked → card ≡ getD (t .shoe .order) (t .shoe .drawn + (b + s)) 0
       → once ≡ passed true b t → twice ≡ passed false (b + s + 1) once → bank ≡ withCard emptyHand card
-      → shoe ≡ drawn (discard (t .shoe) (take b (tableShoe t))) (dealTakes t)
+      → shoe ≡ withDrawn (discard (t .shoe) (take b (tableShoe t))) (dealTakes t)
       → dealtTo twice bank shoe ≡ dealEffect t
   effect {b} {s} {card} {once} {twice} {bank} {shoe} b-is s-is card-is once-is twice-is bank-is shoe-is =
       ap (λ (u : Table). dealtTo u bank shoe) (twice-is ∙ ap (passed false (b + s + 1)) once-is)

@@ -1,2 +1,3 @@
 -- The two passes of a deal as one rule.
-pub mod Passed
+-- What only proofs and the contracts of private functions cite: nothing here has to be believed.
+pub mod Aids

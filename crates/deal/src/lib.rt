@@ -1,25 +1,24 @@
 // deal: burns, then one card to each staked seat, one to the bank, and a second to each (document 01, "The seventeen calls").
 // The number function asks the list's conditions in its order.
-pub mod burns;
-pub mod passes;
-pub mod void;
+pub mod burn;
+pub mod pass;
 
 ghost use mathlib.Core.Path.{_≡_};
 ghost use Rattle.call.specs.Refusal.{first};
 ghost use Rattle.answer.specs.Outcome.{outcome};
 ghost use Rattle.deal_spec.specs.Deal.{dealConditions, dealEffect};
-use crate::burns::burn;
-use crate::burns::burn_at_deal;
-use crate::burns::deal_takes;
-use crate::passes::pass;
-use crate::passes::staked_seats;
+use crate::burn::burn;
+use crate::burn::burn_at_deal;
+use crate::burn::deal_takes;
+use crate::pass::pass;
+use crate::pass::staked_seats;
 use answer::outcome::Outcome;
 use broken::broken;
 use cards::hand::empty_hand;
 use cards::hand::with_card;
 use money::sums::table_sums;
 use shoe::card_ahead;
-use shoe::draw_cards;
+use shoe::with_drawn;
 use state::round::cards_left;
 use state::round::is_dealt;
 use table::Table;
@@ -66,7 +65,7 @@ fn dealt(t: Table) -> Table
     let once = pass(t, true, burnt);
     let mut next = pass(once, false, second);
     next.bank = with_card(empty_hand(), up);
-    next.shoe = draw_cards(burn(shoe, o.decks, burnt), deal_takes(t));
+    next.shoe = with_drawn(burn(shoe, o.decks, burnt), deal_takes(t));
     next
 }
 

@@ -17,24 +17,24 @@ use Rattle.call.specs.Refusal.{first}
 use Rattle.call.proofs.Refusals.{accepted-at}
 use Rattle.cards.specs.Hand.{withCard}
 use Rattle.options.specs.declared.Options.{Options}
-use Rattle.options.specs.Facts.{InRange}
+use Rattle.options.specs.Aids.Facts.{InRange}
 use Rattle.rules.specs.SeatHand.{dealt, notEnded}
 use Rattle.table.specs.declared.Money.{Money}
 use Rattle.table.specs.declared.Shoe.{Shoe}
 use Rattle.table.specs.declared.Table.{Table}
-use Rattle.table.specs.Seat.{noSeat, purse, stake, insurance, isStaked, hands}
+use Rattle.table.specs.Seat.{missingSeat, purse, stake, insurance, isStaked, hands}
 use Rattle.table.specs.Shoe.{isFresh}
 use Rattle.table.specs.Table.{seatAt, someStaked, cardsLeft}
 use Rattle.table.specs.Money.{allCover}
 use Rattle.table.proofs.Facts.{sound-options, no-hands, no-prizes}
 use Rattle.table.specs.Shape.{Shaped}
-use Rattle.table.specs.Sound.{Sound}
+use Rattle.table.specs.Aids.Sound.{Sound}
 use Rattle.history.specs.Entry.{Entry, entry}
 use Rattle.history.specs.Rounds.{stakeIn, stakedBelow}
 use Rattle.history.specs.Cards.{Cards, dealBurns, callTakes, bankAfter, cardsAfter, cardsOfHistory}
 use Rattle.history.specs.Hands.{played, dealtHand, handsAfter, handsIn}
 use Rattle.history.specs.Money.{lays, wins, prizeOf, purseOf}
-use Rattle.agreement.specs.Agrees.{SeatAgrees, CardsAgree, Agrees, Good}
+use Rattle.agreement.specs.Aids.Agrees.{SeatAgrees, CardsAgree, Agrees, Good}
 use Rattle.agreement.proofs.Purse.{purse-moves}
 use Rattle.deal_spec.specs.Burn.{firstBurn, laterBurn, burnAtDeal}
 use Rattle.deal_spec.specs.Deal.{stakedSeats, burnt, dealTakes, dealtSeats, upCard, dealConditions, dealEffect}
@@ -81,7 +81,7 @@ module _ (opening : List ℕ) (es : List Entry) (t : Table) (order : List ℕ) (
   -- how many seats below a number have staked
   before-is : (i : ℕ) → i ≤ 9 → stakedBefore t i ≡ stakedBelow es i
   before-is i h =
-      sum-first (λ s. one (stake s)) (t .seats) i noSeat (omega (arith, g .shaped .nine-seats))
+      sum-first (λ s. one (stake s)) (t .seats) i missingSeat (omega (arith, g .shaped .nine-seats))
       ∙ sum-below-same (λ k. one (stake (seatAt t k))) (λ k. one (stakeIn es k)) i (λ k l. ap one (g .agrees .seats k .stake-is))
 
   no-stake : (i : ℕ) → t .options .seats ≤ i → stakeIn es i ≡ 0
@@ -130,7 +130,7 @@ module _ (opening : List ℕ) (es : List Entry) (t : Table) (order : List ℕ) (
       let within = staked-nine t (g .shaped) (g .sound) ok i staked in
       let below = before-is i (omega arith) in
       let counted : one (stake (seatAt t i)) ≡ 1 = rw staked in
-      let rank : stakedBefore t i < stakedSeats (t .seats) = omega (arith, sum-before (λ s. one (stake s)) (t .seats) i noSeat (omega (arith, g .shaped .nine-seats))) in
+      let rank : stakedBefore t i < stakedSeats (t .seats) = omega (arith, sum-before (λ s. one (stake s)) (t .seats) i missingSeat (omega (arith, g .shaped .nine-seats))) in
       let there : ltb 0 (stakeIn es i) ≡ true = ap (ltb 0) (sym (g .agrees .seats i .stake-is)) ∙ staked in
       let first-card = card-is (firstPlace t + stakedBefore t i) (c .taken + dealBurns (t .options) c + stakedBelow es i) (omega (arith, burn-is, g .agrees .cards .taken)) (omega arith) in
       let second-card =
@@ -157,7 +157,7 @@ module _ (opening : List ℕ) (es : List Entry) (t : Table) (order : List ℕ) (
   purse-is i =
       purse-moves (t .options) opening es i e refl (purse (seatAt t i)) (purse (seatAt t i)) (g .agrees .seats i .purse-is) (omega (arith, lays-none i (stakeIn es i), prize-none i))
 
-  seat-agrees : (i : ℕ) → SeatAgrees (t .options) opening (e ∷ es) i (getD (dealtSeats t) i noSeat)
+  seat-agrees : (i : ℕ) → SeatAgrees (t .options) opening (e ∷ es) i (getD (dealtSeats t) i missingSeat)
   seat-agrees i =
       let a = g .agrees .seats i in
       let both =

@@ -18,12 +18,12 @@ use Rattle.cards.specs.Hand.{withCard}
 use Rattle.table.specs.declared.Money.{Money}
 use Rattle.table.specs.declared.Seat.{Seat}
 use Rattle.table.specs.declared.Table.{Table}
-use Rattle.table.specs.Seat.{noSeat, purse, stake, insurance, isStaked, laid, prizes, seatCards}
+use Rattle.table.specs.Seat.{missingSeat, purse, stake, insurance, isStaked, laid, prizes, seatCards}
 use Rattle.table.specs.Table.{seatAt, isDealt, up, someStaked, bankCards, tableDrawn, tableShoe, tableDiscards}
 use Rattle.table.specs.Money.{allMoney, allCover}
 use Rattle.table.specs.Faces.{outCards}
 use Rattle.table.specs.Shape.{Shaped, ShapedSeat}
-use Rattle.table.specs.Sound.{Sound, SoundSeat}
+use Rattle.table.specs.Aids.Sound.{Sound, SoundSeat}
 use Rattle.table.proofs.Facts.{sound-options, decks-416, room-discards, laid-stake, no-prizes, no-hands}
 use Rattle.table.proofs.SeatChange.{sum-out}
 use Rattle.deal_spec.specs.Pass.{pass, firstCard, secondCard}
@@ -87,8 +87,8 @@ no-cards s none w = rw (no-hands s none)
 
 module _ (t : Table) (shaped : Shaped t) (sound : Sound t) (ok : Dealable t) where
   -- a number past the table's seats has none
-  pub past : (i : ℕ) → 9 ≤ i → seatAt t i ≡ noSeat
-  past i h = List·getD-eq-default (t .seats) noSeat {n = i} (omega arith)
+  pub past : (i : ℕ) → 9 ≤ i → seatAt t i ≡ missingSeat
+  past i h = List·getD-eq-default (t .seats) missingSeat {n = i} (omega arith)
 
   -- before the deal no seat has a hand or an insurance
   pub no-hand-yet : (i : ℕ) → seatAt t i .hands .many ≡ 0
@@ -126,7 +126,7 @@ module _ (t : Table) (shaped : Shaped t) (sound : Sound t) (ok : Dealable t) whe
   once-staked i = pass-staked firstCard (t .shoe .order) (λ s card. refl) (firstPlace t) (t .seats) i
 
   -- what holds of a seat after both, staked or not
-  pub dealt-either : (i : ℕ) (P : Seat → Type 0) → (isStaked (seatAt t i) ≡ true → P (dealtAt t i)) → (isStaked (seatAt t i) ≡ false → P (seatAt t i)) → P (getD (dealtSeats t) i noSeat)
+  pub dealt-either : (i : ℕ) (P : Seat → Type 0) → (isStaked (seatAt t i) ≡ true → P (dealtAt t i)) → (isStaked (seatAt t i) ≡ false → P (seatAt t i)) → P (getD (dealtSeats t) i missingSeat)
   unfolding dealtSeats
   dealt-either i P given idle =
       let both =
@@ -159,20 +159,20 @@ module _ (t : Table) (shaped : Shaped t) (sound : Sound t) (ok : Dealable t) whe
   laid-before : (i : ℕ) → laid (seatAt t i) ≡ stake (seatAt t i)
   laid-before i = laid-stake (seatAt t i) (no-hand-yet i)
 
-  pub laid-after : (i : ℕ) → laid (getD (dealtSeats t) i noSeat) ≡ laid (seatAt t i)
+  pub laid-after : (i : ℕ) → laid (getD (dealtSeats t) i missingSeat) ≡ laid (seatAt t i)
   laid-after i =
       dealt-either i (λ x. laid x ≡ laid (seatAt t i))
       (λ staked. omega (arith, dealt-laid (seatAt t i) (four i staked) (firstOf t i) (secondOf t i), laid-before i, no-insurance-yet i))
       (λ none. refl)
 
-  pub prizes-after : (i : ℕ) → prizes (t .options) (getD (dealtSeats t) i noSeat) ≡ 0
+  pub prizes-after : (i : ℕ) → prizes (t .options) (getD (dealtSeats t) i missingSeat) ≡ 0
   prizes-after i =
       dealt-either i (λ x. prizes (t .options) x ≡ 0)
       (λ staked. dealt-prizes (seatAt t i) (four i staked) (firstOf t i) (secondOf t i) (t .options))
       (λ none. no-prizes (t .options) (seatAt t i) (no-hand-yet i))
 
   over-laid : sum laid (dealtSeats t) ≡ sum laid (t .seats)
-  over-laid = sum-places laid (dealtSeats t) (t .seats) noSeat as-many (λ i h. laid-after i)
+  over-laid = sum-places laid (dealtSeats t) (t .seats) missingSeat as-many (λ i h. laid-after i)
 
   pub deal-money : allMoney (dealEffect t) ≡ allMoney t
   unfolding dealEffect
@@ -250,7 +250,7 @@ module _ (t : Table) (shaped : Shaped t) (sound : Sound t) (ok : Dealable t) whe
   unfolding dealEffect
   drawn-cards w = rw (take-add, sum-append)
 
-  seat-shaped : (i : ℕ) → i < 9 → ShapedSeat (getD (dealtSeats t) i noSeat)
+  seat-shaped : (i : ℕ) → i < 9 → ShapedSeat (getD (dealtSeats t) i missingSeat)
   seat-shaped i h =
       dealt-either i ShapedSeat
       (λ staked. dealt-shaped (seatAt t i) (four i staked) (firstOf t i) (secondOf t i) (shaped .seats i h))
@@ -279,7 +279,7 @@ module _ (t : Table) (shaped : Shaped t) (sound : Sound t) (ok : Dealable t) whe
         prizes-back = f .prizes-back;
       }
 
-  seat-sound : (i : ℕ) (ace : Bool) → i < 9 → SoundSeat (t .options) true ace i (getD (dealtSeats t) i noSeat)
+  seat-sound : (i : ℕ) (ace : Bool) → i < 9 → SoundSeat (t .options) true ace i (getD (dealtSeats t) i missingSeat)
   seat-sound i ace h =
       dealt-either i (SoundSeat (t .options) true ace i)
       (λ staked.

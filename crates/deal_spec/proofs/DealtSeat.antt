@@ -18,9 +18,9 @@ use Rattle.rules.specs.SeatHand.{playedOf, dealt, notEnded}
 use Rattle.payment.specs.Wager.{wager}
 use Rattle.payment.specs.Prize.{prize}
 use Rattle.table.specs.declared.Seat.{Seat}
-use Rattle.table.specs.Seat.{noPlace, stake, insurance, hands, seatCards, laid, prizes}
+use Rattle.table.specs.Seat.{missingPlace, stake, insurance, hands, seatCards, laid, prizes}
 use Rattle.table.specs.Shape.{ShapedSeat}
-use Rattle.table.specs.Sound.{SoundSeat, SoundHand}
+use Rattle.table.specs.Aids.Sound.{SoundSeat, SoundHand}
 use Rattle.history.specs.Hands.{played}
 use Rattle.deal_spec.specs.Pass.{withOnly, firstCard, secondCard}
 
@@ -40,7 +40,7 @@ module _ (s : Seat) (four : length (s .hands .places) ≡ 4) (a b : ℕ) where
   pub both-cards : secondCard (firstCard s a) b ≡ dealtSeat s a b
   both-cards =
       let opened : SeatHand = record { hand = withCard emptyHand a; origin = dealt; ended = notEnded } in
-      rw (getD-set-same (s .hands .places) 0 opened noPlace (omega arith), set-set)
+      rw (getD-set-same (s .hands .places) 0 opened missingPlace (omega arith), set-set)
 
   pub dealt-hands : hands (dealtSeat s a b) ≡ played (a ∷ b ∷ []) dealt notEnded ∷ []
   unfolding withCard
@@ -74,7 +74,7 @@ module _ (s : Seat) (four : length (s .hands .places) ≡ 4) (a b : ℕ) where
   dealt-shaped shaped =
       record {
         four-places = length-set (s .hands .places) 0 (twoCards a b) ∙ four;
-        twenty-cards = λ p h. holds-set (λ n x. length (x .hand .cards) ≡ 20) (s .hands .places) 0 p (twoCards a b) noPlace (omega arith) refl (shaped .twenty-cards p h);
+        twenty-cards = λ p h. holds-set (λ n x. length (x .hand .cards) ≡ 20) (s .hands .places) 0 p (twoCards a b) missingPlace (omega arith) refl (shaped .twenty-cards p h);
       }
 
   -- sound, where it was sound before the deal
@@ -89,7 +89,7 @@ module _ (s : Seat) (four : length (s .hands .places) ≡ 4) (a b : ℕ) where
           in-round = refl;
           staked = staked;
           within = omega arith;
-          each = λ p l k. let here : p ≡ 0 = omega arith in rw (here, getD-set-same (s .hands .places) 0 (twoCards a b) noPlace (omega arith)) dealt-hand;
+          each = λ p l k. let here : p ≡ 0 = omega arith in rw (here, getD-set-same (s .hands .places) 0 (twoCards a b) missingPlace (omega arith)) dealt-hand;
         };
         prizes-back = omega (arith, dealt-prizes o);
       }

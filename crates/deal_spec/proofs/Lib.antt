@@ -3,4 +3,3 @@ pub mod Pass
 pub mod DealtSeat
 pub mod DealSound
 pub mod Deal
-pub mod Void

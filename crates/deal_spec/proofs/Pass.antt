@@ -12,7 +12,7 @@ use Rattle.lists.proofs.Sums.{sum-map}
 use Rattle.lists.proofs.Places.{map-take}
 use Rattle.table.specs.declared.Money.{Money}
 use Rattle.table.specs.declared.Seat.{Seat}
-use Rattle.table.specs.Seat.{noSeat, isStaked}
+use Rattle.table.specs.Seat.{missingSeat, isStaked}
 use Rattle.deal_spec.specs.Pass.{pass}
 use Rattle.deal_spec.specs.Deal.{stakedSeats}
 
@@ -42,32 +42,32 @@ module _ (give : Seat → ℕ → Seat) (order : List ℕ) where
 
   -- the seat at a place
   pub pass-at : (n : ℕ) (seats : List Seat) (i : ℕ)
-      → getD (pass give order n seats) i noSeat
-      ≡ cond (isStaked (getD seats i noSeat)) (give (getD seats i noSeat) (getD order (n + stakedSeats (take i seats)) 0)) (getD seats i noSeat)
+      → getD (pass give order n seats) i missingSeat
+      ≡ cond (isStaked (getD seats i missingSeat)) (give (getD seats i missingSeat) (getD order (n + stakedSeats (take i seats)) 0)) (getD seats i missingSeat)
   unfolding pass sum
   pass-at n [] i = refl
   pass-at n (s ∷ ss) zero = go (isStaked s)
     where
-      go : (b : Bool) → getD (cond b (give s (getD order n 0) ∷ pass give order (suc n) ss) (s ∷ pass give order n ss)) 0 noSeat ≡ cond b (give s (getD order (n + 0) 0)) s
+      go : (b : Bool) → getD (cond b (give s (getD order n 0) ∷ pass give order (suc n) ss) (s ∷ pass give order n ss)) 0 missingSeat ≡ cond b (give s (getD order (n + 0) 0)) s
       go true = let same : n ≡ n + 0 = omega arith in ap (λ (k : ℕ). give s (getD order k 0)) same
       go false = refl
   pass-at n (s ∷ ss) (suc i) = go (isStaked s) (pass-at (suc n) ss i) (pass-at n ss i)
     where
       at : ℕ → Seat
-      at k = cond (isStaked (getD ss i noSeat)) (give (getD ss i noSeat) (getD order k 0)) (getD ss i noSeat)
+      at k = cond (isStaked (getD ss i missingSeat)) (give (getD ss i missingSeat) (getD order k 0)) (getD ss i missingSeat)
 
-      go : (b : Bool) → getD (pass give order (suc n) ss) i noSeat ≡ at (suc n + stakedSeats (take i ss)) → getD (pass give order n ss) i noSeat ≡ at (n + stakedSeats (take i ss))
-          → getD (cond b (give s (getD order n 0) ∷ pass give order (suc n) ss) (s ∷ pass give order n ss)) (suc i) noSeat ≡ at (n + (cond b 1 0 + stakedSeats (take i ss)))
+      go : (b : Bool) → getD (pass give order (suc n) ss) i missingSeat ≡ at (suc n + stakedSeats (take i ss)) → getD (pass give order n ss) i missingSeat ≡ at (n + stakedSeats (take i ss))
+          → getD (cond b (give s (getD order n 0) ∷ pass give order (suc n) ss) (s ∷ pass give order n ss)) (suc i) missingSeat ≡ at (n + (cond b 1 0 + stakedSeats (take i ss)))
       go true given idle = let same : suc n + stakedSeats (take i ss) ≡ n + (1 + stakedSeats (take i ss)) = omega arith in given ∙ ap at same
       go false given idle = let same : n + stakedSeats (take i ss) ≡ n + (0 + stakedSeats (take i ss)) = omega arith in idle ∙ ap at same
 
   -- what holds of it, staked or not
   pub pass-either : (n : ℕ) (seats : List Seat) (i : ℕ) (P : Seat → Type 0)
-      → (isStaked (getD seats i noSeat) ≡ true → P (give (getD seats i noSeat) (getD order (n + stakedSeats (take i seats)) 0)))
-      → (isStaked (getD seats i noSeat) ≡ false → P (getD seats i noSeat)) → P (getD (pass give order n seats) i noSeat)
-  pass-either n seats i P given idle = rw (pass-at n seats i) (go (isStaked (getD seats i noSeat)) refl)
+      → (isStaked (getD seats i missingSeat) ≡ true → P (give (getD seats i missingSeat) (getD order (n + stakedSeats (take i seats)) 0)))
+      → (isStaked (getD seats i missingSeat) ≡ false → P (getD seats i missingSeat)) → P (getD (pass give order n seats) i missingSeat)
+  pass-either n seats i P given idle = rw (pass-at n seats i) (go (isStaked (getD seats i missingSeat)) refl)
     where
-      go : (b : Bool) → isStaked (getD seats i noSeat) ≡ b → P (cond b (give (getD seats i noSeat) (getD order (n + stakedSeats (take i seats)) 0)) (getD seats i noSeat))
+      go : (b : Bool) → isStaked (getD seats i missingSeat) ≡ b → P (cond b (give (getD seats i missingSeat) (getD order (n + stakedSeats (take i seats)) 0)) (getD seats i missingSeat))
       go true e = given e
       go false e = idle e
 
@@ -84,7 +84,7 @@ module _ (give : Seat → ℕ → Seat) (order : List ℕ) where
 
   -- the cards that a pass gives, whatever is summed over them
   pub pass-cards : (f : Seat → ℕ) (w : ℕ → ℕ) (n : ℕ) (seats : List Seat) → n + stakedSeats seats ≤ length order
-      → ((i : ℕ) → isStaked (getD seats i noSeat) ≡ true → (card : ℕ) → f (give (getD seats i noSeat) card) ≡ f (getD seats i noSeat) + w card)
+      → ((i : ℕ) → isStaked (getD seats i missingSeat) ≡ true → (card : ℕ) → f (give (getD seats i missingSeat) card) ≡ f (getD seats i missingSeat) + w card)
       → sum f (pass give order n seats) ≡ sum f seats + sum w (take (stakedSeats seats) (drop n order))
   unfolding pass sum
   pass-cards f w n [] room each = refl

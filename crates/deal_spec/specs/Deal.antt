@@ -10,7 +10,7 @@ use Rattle.cards.specs.Hand.{emptyHand, withCard}
 use Rattle.table.specs.declared.Seat.{Seat}
 use Rattle.table.specs.declared.Table.{Table}
 use Rattle.table.specs.Seat.{isStaked}
-use Rattle.table.specs.Shoe.{drawn, discard}
+use Rattle.table.specs.Shoe.{withDrawn, discard}
 use Rattle.table.specs.Table.{makeTable, isDealt, someStaked, tableShoe, cardsLeft}
 use Rattle.table.specs.Money.{allCover}
 use Rattle.table.specs.Broken.{broken}
@@ -51,4 +51,4 @@ upCard t = getD (t .shoe .order) (t .shoe .drawn + burnt t + stakedSeats (t .sea
 unfoldable pub dealEffect : Table → Table
 dealEffect t =
     makeTable (t .options) (t .tray) (dealtSeats t) (withCard emptyHand (upCard t))
-    (drawn (discard (t .shoe) (take (burnt t) (tableShoe t))) (dealTakes t))
+    (withDrawn (discard (t .shoe) (take (burnt t) (tableShoe t))) (dealTakes t))

@@ -2,4 +2,3 @@
 pub mod Burn
 pub mod Pass
 pub mod Deal
-pub mod Void

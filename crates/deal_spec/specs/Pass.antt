@@ -7,7 +7,7 @@ use Rattle.cards.specs.Hand.{emptyHand, withCard}
 use Rattle.rules.specs.declared.seat_hand.SeatHand.{SeatHand}
 use Rattle.rules.specs.SeatHand.{dealt, notEnded}
 use Rattle.table.specs.declared.Seat.{Seat}
-use Rattle.table.specs.Seat.{noPlace, makeSeat, isStaked}
+use Rattle.table.specs.Seat.{missingPlace, makeSeat, isStaked}
 
 -- The seat with this hand at its first place, and no other.
 abbrev pub withOnly : Seat → SeatHand → Seat
@@ -18,7 +18,7 @@ abbrev pub firstCard : Seat → ℕ → Seat
 firstCard s card = withOnly s (record { hand = withCard emptyHand card; origin = dealt; ended = notEnded })
 
 abbrev pub secondCard : Seat → ℕ → Seat
-secondCard s card = withOnly s (record { hand = withCard (getD (s .hands .places) 0 noPlace .hand) card; origin = dealt; ended = notEnded })
+secondCard s card = withOnly s (record { hand = withCard (getD (s .hands .places) 0 missingPlace .hand) card; origin = dealt; ended = notEnded })
 
 -- A pass over the seats, from place n of the order: each staked seat takes the next card.
 unfoldable pub pass : (Seat → ℕ → Seat) → List ℕ → ℕ → List Seat → List Seat

@@ -20,12 +20,12 @@ use Rattle.call.specs.Refusal.{Condition, first}
 use Rattle.call.proofs.Refusals.{accepted-at}
 use Rattle.table.specs.declared.Seat.{Seat}
 use Rattle.table.specs.declared.Table.{Table}
-use Rattle.table.specs.Seat.{noPlace, noSeat, stake, insurance, isStaked, hands}
+use Rattle.table.specs.Seat.{missingPlace, missingSeat, stake, insurance, isStaked, hands}
 use Rattle.table.specs.Table.{seatAt, seatsHands, isDealt, up}
 use Rattle.table.specs.Shape.{Shaped, ShapedSeat}
-use Rattle.table.specs.Sound.{Sound, Insured, Playing}
+use Rattle.table.specs.Aids.Sound.{Sound, Insured, Playing}
 use Rattle.decision_spec.specs.Round.{roundConditions, noStake, placeOf}
-use Rattle.decision_spec.specs.Turn.{turnConditions, turnPlace}
+use Rattle.decision_spec.specs.Turn.{turnConditions, waitingPlaceOf}
 use Rattle.decision_spec.proofs.OneCall.{Acting}
 
 -- the tests that insurance and the decisions share, at their places
@@ -78,26 +78,26 @@ module _ (t : Table) (shaped : Shaped t) (sound : Sound t) (j : ℕ) where
       go (yes h) = h
       go (no h) = omega (arith, sound .seats j (nine (act .within)) .waiting (omega arith) (act .dealt))
 
-  pub seat-waiting : Staked t j → seatWaits (t .options) (up t) (hands (seatAt t j)) ≡ true → Waiting t j (turnPlace t j)
+  pub seat-waiting : Staked t j → seatWaits (t .options) (up t) (hands (seatAt t j)) ≡ true → Waiting t j (waitingPlaceOf t j)
   seat-waiting seat some =
       let s = seatAt t j in
       let test = waits (t .options) (up t) (length (hands s)) in
-      let inside : turnPlace t j < length (hands s) = ltb-true _ _ (first-inside test (hands s) ∙ some) in
-      let here : turnPlace t j < s .hands .many = omega (arith, many-hands (s .hands) (seat .shaped .four-places)) in
-      let waiting : waits (t .options) (up t) (length (hands s)) (playedOf (placeOf s (turnPlace t j))) ≡ true =
-      ap (waits (t .options) (up t) (length (hands s))) (sym (hand-at (s .hands) (turnPlace t j) noPlace here)) ∙ first-passes test (hands s) (playedOf noPlace) inside in
-      record { seat = seat; here = here; waits = waiting; not-ended = waits-open t (length (hands s)) (playedOf (placeOf s (turnPlace t j))) waiting }
+      let inside : waitingPlaceOf t j < length (hands s) = ltb-true _ _ (first-inside test (hands s) ∙ some) in
+      let here : waitingPlaceOf t j < s .hands .many = omega (arith, many-hands (s .hands) (seat .shaped .four-places)) in
+      let waiting : waits (t .options) (up t) (length (hands s)) (playedOf (placeOf s (waitingPlaceOf t j))) ≡ true =
+      ap (waits (t .options) (up t) (length (hands s))) (sym (hand-at (s .hands) (waitingPlaceOf t j) missingPlace here)) ∙ first-passes test (hands s) (playedOf missingPlace) inside in
+      record { seat = seat; here = here; waits = waiting; not-ended = waits-open t (length (hands s)) (playedOf (placeOf s (waitingPlaceOf t j))) waiting }
 
-  pub turn-waiting : Staked t j → turnSeat (t .options) (up t) (seatsHands t) ≡ j → Waiting t j (turnPlace t j)
+  pub turn-waiting : Staked t j → turnSeat (t .options) (up t) (seatsHands t) ≡ j → Waiting t j (waitingPlaceOf t j)
   turn-waiting seat turn =
       let test = seatWaits (t .options) (up t) in
       let inside : turnSeat (t .options) (up t) (seatsHands t) < length (seatsHands t) = omega (arith, length-map (t .seats) hands, shaped .nine-seats, nine (seat .acting .within)) in
       seat-waiting seat
-      (ap test (sym (List·getD-map hands (t .seats) j noSeat))
-      ∙ ap (λ (i : ℕ). test (getD (seatsHands t) i (hands noSeat))) (sym turn)
-      ∙ first-passes test (seatsHands t) (hands noSeat) inside)
+      (ap test (sym (List·getD-map hands (t .seats) j missingSeat))
+      ∙ ap (λ (i : ℕ). test (getD (seatsHands t) i (hands missingSeat))) (sym turn)
+      ∙ first-passes test (seatsHands t) (hands missingSeat) inside)
 
-  pub in-turn : (rest : List Condition) → all (λ c. ltb 0 (c .0)) rest ≡ true → first (turnConditions t j ++ rest) ≡ 0 → Waiting t j (turnPlace t j)
+  pub in-turn : (rest : List Condition) → all (λ c. ltb 0 (c .0)) rest ≡ true → first (turnConditions t j ++ rest) ≡ 0 → Waiting t j (waitingPlaceOf t j)
   unfolding turnConditions roundConditions all
   in-turn rest numbers e =
       let turn = turnSeat (t .options) (up t) (seatsHands t) in

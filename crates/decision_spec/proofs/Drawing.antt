@@ -14,7 +14,7 @@ use Rattle.cards.specs.Hand.{cardsOf, withCard}
 use Rattle.cards.specs.Total.{total}
 use Rattle.cards.proofs.hand.WithCard.{with-card-cards, with-card-count, with-card-full}
 use Rattle.cards.proofs.total.Bounds.{room-below-21, played-more}
-use Rattle.cards.proofs.prize.PrizeTotal.{no-prize-below-21}
+use Rattle.cards.proofs.prize_hand.PrizeTotal.{no-prize-below-21}
 use Rattle.rules.specs.declared.seat_hand.SeatHand.{SeatHand}
 use Rattle.rules.specs.SeatHand.{Played, playedOf, splitAces, notEnded, byDouble, hasTwoCards}
 use Rattle.rules.specs.Turn.{waitingPlace}
@@ -22,28 +22,28 @@ use Rattle.rules.specs.Waits.{waits}
 use Rattle.rules.specs.Permits.{takesCards, permitsDraw, permitsDouble}
 use Rattle.payment.specs.Wager.{wager}
 use Rattle.payment.specs.Prize.{prize}
-use Rattle.payment.proofs.stake.Bounds.{wager-single, wager-double, prize-none, prize-same, prize-most}
+use Rattle.payment.proofs.Bounds.{wager-single, wager-double, prize-none, prize-same, prize-most}
 use Rattle.call.specs.declared.At.{At}
 use Rattle.call.specs.declared.Call.the-variants.{Draw, Double}
 use Rattle.call.specs.Refusal.{first}
 use Rattle.call.proofs.Refusals.{accepted-at}
 use Rattle.history.specs.Entry.{Entry, entry, isInsure, isDraw, isDouble}
 use Rattle.history.specs.Cards.{Cards, callTakes}
-use Rattle.history.specs.Hands.{played, noHand, nextCard, grown, ended, decide}
+use Rattle.history.specs.Hands.{played, missingHand, nextCard, grown, finished, decide}
 use Rattle.history.specs.Money.{lays, wins}
 use Rattle.table.specs.declared.Money.{Money}
 use Rattle.table.specs.declared.Table.{Table}
 use Rattle.table.specs.Seat.{money, purse, stake, insurance, hands}
-use Rattle.table.specs.Shoe.{drawn}
+use Rattle.table.specs.Shoe.{withDrawn}
 use Rattle.table.specs.Table.{seatAt, up, tableOrder, cardsLeft}
 use Rattle.table.specs.Shape.{Shaped}
-use Rattle.table.specs.Sound.{Sound, SoundHand}
+use Rattle.table.specs.Aids.Sound.{Sound, SoundHand}
 use Rattle.table.proofs.SeatHands.{with-hand, hand-is}
 use Rattle.table.proofs.NextCards.{card-at, next-one}
 use Rattle.table.proofs.Cover.{tray-covers}
-use Rattle.agreement.specs.Agrees.{CardsAgree}
+use Rattle.agreement.specs.Aids.Agrees.{CardsAgree}
 use Rattle.decision_spec.specs.Round.{roundConditions}
-use Rattle.decision_spec.specs.Turn.{turnConditions, turnPlace, turnHand, mayTake}
+use Rattle.decision_spec.specs.Turn.{turnConditions, waitingPlaceOf, waitingHandOf, mayTake}
 use Rattle.decision_spec.specs.Card.{cardAhead, grownHand, cardEffect}
 use Rattle.decision_spec.specs.Draw.{drawConditions, drawEffect}
 use Rattle.decision_spec.specs.Double.{doubleConditions, doubleEffect}
@@ -64,15 +64,15 @@ record Growing (t : Table) (e : Entry) (j more code : ℕ) : Type 0 where
   no-insure : isInsure e ≡ false
   gives : isDraw e || isDouble e ≡ true
   takes : (staked : ℕ) (c : Cards) → callTakes (t .options) staked c e ≡ 1
-  decides : (c : Cards) (h : Played) → getD (hands (seatAt t j)) (turnPlace t j) noHand ≡ h → h .ended ≡ notEnded
-      → decide (hands (seatAt t j)) (turnPlace t j) c e ≡ set (hands (seatAt t j)) (turnPlace t j) (played (h .cards ++ (nextCard c 0 ∷ [])) (h .origin) code)
+  decides : (c : Cards) (h : Played) → getD (hands (seatAt t j)) (waitingPlaceOf t j) missingHand ≡ h → h .ended ≡ notEnded
+      → decide (hands (seatAt t j)) (waitingPlaceOf t j) c e ≡ set (hands (seatAt t j)) (waitingPlaceOf t j) (played (h .cards ++ (nextCard c 0 ∷ [])) (h .origin) code)
   lays-it : lays j (stake (seatAt t j)) e ≡ more
   in-code : code ≤ 5
   wager-is : (h : Played) → h .ended ≡ code → wager (stake (seatAt t j)) h ≡ stake (seatAt t j) + more
 
 -- what its conditions give
 record Allowed (t : Table) (j more : ℕ) : Type 0 where
-  below : total (cardsOf (turnHand t j .hand)) < 21
+  below : total (cardsOf (waitingHandOf t j .hand)) < 21
   purse-has : more ≤ purse (seatAt t j)
   left : 1 ≤ cardsLeft t
 
@@ -97,28 +97,28 @@ module _ (h : SeatHand) (card code : ℕ) (full : length (h .hand .cards) ≡ 20
   more-full : length (withCard (h .hand) card .cards) ≡ 20
   more-full = with-card-full (h .hand) card full room
 
-module _ (t : Table) (e : Entry) (j more code : ℕ) (shaped : Shaped t) (sound : Sound t) (w : Waiting t j (turnPlace t j)) (g : Growing t e j more code) (a : Allowed t j more) where
+module _ (t : Table) (e : Entry) (j more code : ℕ) (shaped : Shaped t) (sound : Sound t) (w : Waiting t j (waitingPlaceOf t j)) (g : Growing t e j more code) (a : Allowed t j more) where
   abbrev won : ℕ
   won = prize (t .options) (stake (seatAt t j)) (playedOf (grownHand t j code))
 
   abbrev new-money : Money
   new-money = money (purse (seatAt t j) - more + won) (stake (seatAt t j)) (insurance (seatAt t j))
 
-  full : length (turnHand t j .hand .cards) ≡ 20
-  full = w .seat .shaped .twenty-cards (turnPlace t j) (omega arith)
+  full : length (waitingHandOf t j .hand .cards) ≡ 20
+  full = w .seat .shaped .twenty-cards (waitingPlaceOf t j) (omega arith)
 
-  was : SoundHand (turnHand t j)
-  was = w .seat .playing .each (turnPlace t j) (w .here) (omega (arith, w .here, w .seat .few, w .seat .shaped .four-places))
+  was : SoundHand (waitingHandOf t j)
+  was = w .seat .playing .each (waitingPlaceOf t j) (w .here) (omega (arith, w .here, w .seat .few, w .seat .shaped .four-places))
 
-  cards : cardsOf (grownHand t j code .hand) ≡ cardsOf (turnHand t j .hand) ++ (cardAhead t 0 ∷ [])
-  cards = more-cards (turnHand t j) (cardAhead t 0) code full was (a .below)
+  cards : cardsOf (grownHand t j code .hand) ≡ cardsOf (waitingHandOf t j .hand) ++ (cardAhead t 0 ∷ [])
+  cards = more-cards (waitingHandOf t j) (cardAhead t 0) code full was (a .below)
 
-  same-hand : getD (hands (seatAt t j)) (turnPlace t j) noHand ≡ playedOf (turnHand t j)
-  same-hand = hand-is (seatAt t j) (turnPlace t j) (w .seat .shaped) (w .seat .few) (w .here)
+  same-hand : getD (hands (seatAt t j)) (waitingPlaceOf t j) missingHand ≡ playedOf (waitingHandOf t j)
+  same-hand = hand-is (seatAt t j) (waitingPlaceOf t j) (w .seat .shaped) (w .seat .few) (w .here)
 
   -- the history gives it the same card
-  history-cards : (c : Cards) → CardsAgree c t → cardsOf (turnHand t j .hand) ++ (nextCard c 0 ∷ []) ≡ cardsOf (grownHand t j code .hand)
-  history-cards c agree = ap (λ (x : ℕ). cardsOf (turnHand t j .hand) ++ (x ∷ [])) (next-card t c 0 agree (omega (arith, a .left))) ∙ sym cards
+  history-cards : (c : Cards) → CardsAgree c t → cardsOf (waitingHandOf t j .hand) ++ (nextCard c 0 ∷ []) ≡ cardsOf (grownHand t j code .hand)
+  history-cards c agree = ap (λ (x : ℕ). cardsOf (waitingHandOf t j .hand) ++ (x ∷ [])) (next-card t c 0 agree (omega (arith, a .left))) ∙ sym cards
 
   wins-won : (c : Cards) → CardsAgree c t → wins (t .options) c j (stake (seatAt t j)) (hands (seatAt t j)) e ≡ won
   unfolding wins
@@ -127,14 +127,14 @@ module _ (t : Table) (e : Entry) (j more code : ℕ) (shaped : Shaped t) (sound 
       let hs = hands (seatAt t j) in
       let prize-of : Played → ℕ = λ x. prize o (stake (seatAt t j)) (grown x (nextCard c 0)) in
       simp (of-seat e j (g .guest), g .gives)
-      (ap (λ (b : List ℕ). prize-of (getD hs (waitingPlace o (getD b 0 0) hs) noHand)) (sym (agree .bank))
+      (ap (λ (b : List ℕ). prize-of (getD hs (waitingPlace o (getD b 0 0) hs) missingHand)) (sym (agree .bank))
       ∙ ap prize-of same-hand
-      ∙ prize-same o (stake (seatAt t j)) (grown (playedOf (turnHand t j)) (nextCard c 0)) (playedOf (grownHand t j code)) (history-cards c agree))
+      ∙ prize-same o (stake (seatAt t j)) (grown (playedOf (waitingHandOf t j)) (nextCard c 0)) (playedOf (grownHand t j code)) (history-cards c agree))
 
-  card-call : HandCall t e j (turnPlace t j) (t .tray - won) new-money (grownHand t j code) (drawn (t .shoe) 1) 1 more won
+  card-call : HandCall t e j (waitingPlaceOf t j) (t .tray - won) new-money (grownHand t j code) (withDrawn (t .shoe) 1) 1 more won
   card-call =
       let s = seatAt t j in
-      let h = turnHand t j in
+      let h = waitingHandOf t j in
       let new = grownHand t j code in
       record {
         guest = g .guest;
@@ -143,7 +143,7 @@ module _ (t : Table) (e : Entry) (j more code : ℕ) (shaped : Shaped t) (sound 
         same-insurance = refl;
         full = more-full h (cardAhead t 0) code full was (a .below);
         sound-hand = more-sound h (cardAhead t 0) code full was (a .below) (g .in-code);
-        decides = λ c agree. g .decides c (playedOf h) same-hand (w .not-ended) ∙ ap (λ (xs : List ℕ). set (hands s) (turnPlace t j) (played xs (h .origin) code)) (history-cards c agree);
+        decides = λ c agree. g .decides c (playedOf h) same-hand (w .not-ended) ∙ ap (λ (xs : List ℕ). set (hands s) (waitingPlaceOf t j) (played xs (h .origin) code)) (history-cards c agree);
         lays-it = g .lays-it;
         wins-it = wins-won;
         wager-grows = omega (arith, g .wager-is (playedOf new) refl, wager-single (stake s) (playedOf h) (λ b. omega arith));
@@ -163,26 +163,26 @@ module _ (t : Table) (e : Entry) (j more code : ℕ) (shaped : Shaped t) (sound 
       record {
         j = j;
         tray = t .tray - won;
-        seat = with-hand (seatAt t j) new-money (turnPlace t j) (grownHand t j code);
-        shoe = drawn (t .shoe) 1;
+        seat = with-hand (seatAt t j) new-money (waitingPlaceOf t j) (grownHand t j code);
+        shoe = withDrawn (t .shoe) 1;
         k = 1;
         more = more;
         won = won;
         is = refl;
-        decided = one-hand t e j (turnPlace t j) (t .tray - won) new-money (grownHand t j code) (drawn (t .shoe) 1) 1 more won shaped sound w card-call;
+        decided = one-hand t e j (waitingPlaceOf t j) (t .tray - won) new-money (grownHand t j code) (withDrawn (t .shoe) 1) 1 more won shaped sound w card-call;
       }
 
 -- a hand that takes cards is below 21
-takes-below : (t : Table) (j : ℕ) → mayTake takesCards t j ≡ true → total (cardsOf (turnHand t j .hand)) < 21
+takes-below : (t : Table) (j : ℕ) → mayTake takesCards t j ≡ true → total (cardsOf (waitingHandOf t j .hand)) < 21
 unfolding takesCards
 takes-below t j e =
-    let h = playedOf (turnHand t j) in
+    let h = playedOf (waitingHandOf t j) in
     ltb-true (total (h .cards)) 21 (and-eq-true-iff (waits (t .options) (up t) (length (hands (seatAt t j))) h && not (eqb (h .origin) splitAces)) (ltb (total (h .cards)) 21) .0 e .1)
 
 double-takes : (t : Table) (j : ℕ) → mayTake permitsDouble t j ≡ true → mayTake takesCards t j ≡ true
 unfolding permitsDouble
 double-takes t j e =
-    let h = playedOf (turnHand t j) in
+    let h = playedOf (waitingHandOf t j) in
     let two = and-eq-true-iff (mayTake takesCards t j && hasTwoCards h) (eqb (t .options .double) 1 || eqb (total (h .cards)) 11) .0 e .0 in
     and-eq-true-iff (mayTake takesCards t j) (hasTwoCards h) .0 two .0
 
@@ -201,8 +201,8 @@ module _ (t : Table) (at : At) (order : List ℕ) (shaped : Shaped t) (sound : S
         gives = refl;
         takes = λ staked c. refl;
         decides = λ c h same still-open.
-            ap (λ (x : Played). set (hands (seatAt t j)) (turnPlace t j) (grown x (nextCard c 0))) same
-            ∙ ap (λ (n : ℕ). set (hands (seatAt t j)) (turnPlace t j) (played (h .cards ++ (nextCard c 0 ∷ [])) (h .origin) n)) still-open;
+            ap (λ (x : Played). set (hands (seatAt t j)) (waitingPlaceOf t j) (grown x (nextCard c 0))) same
+            ∙ ap (λ (n : ℕ). set (hands (seatAt t j)) (waitingPlaceOf t j) (played (h .cards ++ (nextCard c 0 ∷ [])) (h .origin) n)) still-open;
         lays-it = simp (eq-eqb j j refl);
         in-code = omega arith;
         wager-is = λ h code. omega (arith, wager-single (stake (seatAt t j)) h (λ b. omega arith));
@@ -222,7 +222,7 @@ module _ (t : Table) (at : At) (order : List ℕ) (shaped : Shaped t) (sound : S
         no-insure = refl;
         gives = refl;
         takes = λ staked c. refl;
-        decides = λ c h same still-open. ap (λ (x : Played). set (hands (seatAt t j)) (turnPlace t j) (ended (grown x (nextCard c 0)) byDouble)) same;
+        decides = λ c h same still-open. ap (λ (x : Played). set (hands (seatAt t j)) (waitingPlaceOf t j) (finished (grown x (nextCard c 0)) byDouble)) same;
         lays-it = simp (eq-eqb j j refl);
         in-code = omega arith;
         wager-is = λ h code. omega (arith, wager-double S h code);

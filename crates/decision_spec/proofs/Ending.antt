@@ -15,24 +15,24 @@ use Rattle.rules.specs.Turn.{seatWaits}
 use Rattle.rules.proofs.seat_hand.Places.{many-hands}
 use Rattle.rules.specs.Leaving.{permitsEven, permitsFive}
 use Rattle.rules.specs.Drew.{seatDrew}
-use Rattle.payment.proofs.stake.Bounds.{wager-single, prize-same}
+use Rattle.payment.proofs.Bounds.{wager-single, prize-same}
 use Rattle.call.specs.declared.At.{At}
 use Rattle.call.specs.declared.Call.the-variants.{Stand, Surrender, Even, Five}
 use Rattle.call.specs.Refusal.{Condition, first}
 use Rattle.call.proofs.Refusals.{accepted-at}
 use Rattle.history.specs.Entry.{Entry, entry, isInsure, isDraw, isDouble, isSplit}
 use Rattle.history.specs.Cards.{Cards, callTakes}
-use Rattle.history.specs.Hands.{decide, noHand, ended}
+use Rattle.history.specs.Hands.{decide, missingHand, finished}
 use Rattle.history.specs.Money.{lays, wins}
 use Rattle.table.specs.declared.Seat.{Seat}
 use Rattle.table.specs.declared.Table.{Table}
-use Rattle.table.specs.Seat.{noSeat, stake, hands}
+use Rattle.table.specs.Seat.{missingSeat, stake, hands}
 use Rattle.table.specs.Table.{withSeat, seatAt, seatsHands, up}
 use Rattle.table.specs.Shape.{Shaped}
-use Rattle.table.specs.Sound.{Sound}
+use Rattle.table.specs.Aids.Sound.{Sound}
 use Rattle.table.proofs.SeatHands.{hand-is}
 use Rattle.decision_spec.specs.Round.{roundConditions, anyDrew, placeOf, withPlace, endedBy}
-use Rattle.decision_spec.specs.Turn.{turnConditions, turnPlace, mayTake, endEffect}
+use Rattle.decision_spec.specs.Turn.{turnConditions, waitingPlaceOf, mayTake, endEffect}
 use Rattle.decision_spec.specs.Stand.{standConditions, standEffect}
 use Rattle.decision_spec.specs.Even.{evenConditions, evenEffect}
 use Rattle.decision_spec.specs.Five.{fiveConditions, fiveEffect}
@@ -49,7 +49,7 @@ ended-seat t j p code = withPlace (seatAt t j) p (endedBy (placeOf (seatAt t j) 
 record Ending (t : Table) (e : Entry) (j p code : ℕ) : Type 0 where
   guest : Guest e j
   plain : isInsure e || isDraw e || isDouble e || isSplit e ≡ false
-  decides : (c : Cards) → decide (hands (seatAt t j)) (turnPlace t j) c e ≡ set (hands (seatAt t j)) p (ended (getD (hands (seatAt t j)) p noHand) code)
+  decides : (c : Cards) → decide (hands (seatAt t j)) (waitingPlaceOf t j) c e ≡ set (hands (seatAt t j)) p (finished (getD (hands (seatAt t j)) p missingHand) code)
   in-code : code ≤ 5
   single : code ≡ byDouble → ⊥
 
@@ -84,7 +84,7 @@ module _ (t : Table) (e : Entry) (j p code : ℕ) (d : Ending t e j p code) wher
         full = w .seat .shaped .twenty-cards p (omega arith);
         sound-hand = record { two-cards = was .two-cards; twenty-cards = was .twenty-cards; played = was .played; origin = was .origin; ended = d .in-code };
         decides =
-            λ c agree. d .decides c ∙ ap (λ (x : Played). set (hands s) p (ended x code)) (hand-is s p (w .seat .shaped) (w .seat .few) (w .here));
+            λ c agree. d .decides c ∙ ap (λ (x : Played). set (hands s) p (finished x code)) (hand-is s p (w .seat .shaped) (w .seat .few) (w .here));
         lays-it = lays-none (stake s);
         wins-it = λ c agree. simp (plains .1, plains .2, and-false);
         wager-grows = omega (arith, wager-single (stake s) (playedOf new) (d .single), wager-single (stake s) (playedOf h) (λ b. omega arith));
@@ -115,16 +115,16 @@ nobody-split : (t : Table) (j : ℕ) → Shaped t → j < 9 → anyDrew t ≡ fa
 unfolding anyDrew seatDrew
 nobody-split t j shaped nine none =
     let mine : seatDrew (hands (seatAt t j)) ≡ false =
-    ap seatDrew (sym (List·getD-map hands (t .seats) j noSeat)) ∙ any-not-at seatDrew (seatsHands t) j (hands noSeat) (omega (arith, length-map (t .seats) hands, shaped .nine-seats)) none in
+    ap seatDrew (sym (List·getD-map hands (t .seats) j missingSeat)) ∙ any-not-at seatDrew (seatsHands t) j (hands missingSeat) (omega (arith, length-map (t .seats) hands, shaped .nine-seats)) none in
     ltb-false 1 (length (hands (seatAt t j))) (or-eq-false (ltb 1 (length (hands (seatAt t j)))) (any (λ h. not (hasTwoCards h)) (hands (seatAt t j))) mine .0)
 
 module _ (t : Table) (at : At) (order : List ℕ) (shaped : Shaped t) (sound : Sound t) where
   -- stand, even and five end the hand whose turn it is
-  in-turn-decides : (e : Entry) (code : ℕ) (rest : List Condition) → all (λ c. ltb 0 (c .0)) rest ≡ true → Ending t e (at .seat) (turnPlace t (at .seat)) code
+  in-turn-decides : (e : Entry) (code : ℕ) (rest : List Condition) → all (λ c. ltb 0 (c .0)) rest ≡ true → Ending t e (at .seat) (waitingPlaceOf t (at .seat)) code
       → first (turnConditions t (at .seat) ++ rest) ≡ 0 → Decision t e (endEffect code t (at .seat))
   unfolding endEffect
   in-turn-decides e code rest numbers d accepted =
-      end-decides t e (at .seat) (turnPlace t (at .seat)) code d shaped sound (in-turn t shaped sound (at .seat) rest numbers accepted)
+      end-decides t e (at .seat) (waitingPlaceOf t (at .seat)) code d shaped sound (in-turn t shaped sound (at .seat) rest numbers accepted)
 
   pub stand-decides : first (standConditions t (at .seat)) ≡ 0 → Decision t (entry (Stand at) order) (standEffect t (at .seat))
   unfolding turnConditions roundConditions all decide
@@ -150,7 +150,7 @@ module _ (t : Table) (at : At) (order : List ℕ) (shaped : Shaped t) (sound : S
       let holds : (k : ℕ) → getD (surrenderConditions t (at .seat)) k (0, false) .1 ≡ false = λ k. accepted-at (surrenderConditions t (at .seat)) k refl e in
       let seat = staked-seat t shaped sound (at .seat) (acting t (at .seat) (holds 1) (holds 2)) (has-stake t (at .seat) (holds 3)) in
       let w = seat-waiting t shaped sound (at .seat) seat (not-false (seatWaits (t .options) (up t) (hands s)) (holds 5)) in
-      let first-place : turnPlace t (at .seat) ≡ 0 = omega (arith, nobody-split t (at .seat) shaped (nine t shaped sound (at .seat) (seat .acting .within)) (holds 4), many-hands (s .hands) (seat .shaped .four-places), w .here) in
+      let first-place : waitingPlaceOf t (at .seat) ≡ 0 = omega (arith, nobody-split t (at .seat) shaped (nine t shaped sound (at .seat) (seat .acting .within)) (holds 4), many-hands (s .hands) (seat .shaped .four-places), w .here) in
       end-decides t (entry (Surrender at) order) (at .seat) 0 bySurrender
       (record { guest = record { least = omega arith; most = omega arith; seat-is = refl }; plain = refl; decides = λ c. refl; in-code = omega arith; single = λ h. omega arith })
       shaped sound (subst (Waiting t (at .seat)) first-place w)

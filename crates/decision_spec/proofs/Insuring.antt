@@ -21,9 +21,9 @@ use Rattle.table.specs.declared.Seat.{Seat}
 use Rattle.table.specs.declared.Table.{Table}
 use Rattle.table.specs.Seat.{money, makeSeat, purse, stake, insurance, prizes}
 use Rattle.table.specs.Table.{seatAt, up}
-use Rattle.table.specs.Broken.{insurancePermitted}
+use Rattle.options.specs.Permitted.{insurancePermitted}
 use Rattle.table.specs.Shape.{Shaped, ShapedSeat}
-use Rattle.table.specs.Sound.{Sound}
+use Rattle.table.specs.Aids.Sound.{Sound}
 use Rattle.table.proofs.SeatHands.{laid-playing}
 use Rattle.decision_spec.specs.Round.{roundConditions}
 use Rattle.decision_spec.specs.Insure.{insureConditions, insureEffect}

@@ -23,15 +23,15 @@ use Rattle.table.specs.declared.Seat.{Seat}
 use Rattle.table.specs.declared.Shoe.{Shoe}
 use Rattle.table.specs.declared.Table.{Table}
 use Rattle.table.specs.Seat.{purse, stake, insurance, hands, laid, prizes, seatCards}
-use Rattle.table.specs.Shoe.{drawn}
+use Rattle.table.specs.Shoe.{withDrawn}
 use Rattle.table.specs.Table.{seatAt, isDealt, up, bankCards, tableShoe, cardsLeft}
 use Rattle.table.specs.Shape.{Shaped, ShapedSeat}
-use Rattle.table.specs.Sound.{Sound, SoundSeat, Insured, Playing}
+use Rattle.table.specs.Aids.Sound.{Sound, SoundSeat, Insured, Playing}
 use Rattle.table.proofs.SeatChange.{changed, SeatChange, change-shaped, change-money, change-sound}
-use Rattle.agreement.specs.Agrees.{SeatAgrees, CardsAgree, Good}
+use Rattle.agreement.specs.Aids.Agrees.{SeatAgrees, CardsAgree, Good}
 use Rattle.agreement.proofs.OneSeat.{SeatCall, one-call}
 use Rattle.agreement.proofs.Purse.{purse-moves}
-use Rattle.decision_spec.specs.Turn.{turnPlace}
+use Rattle.decision_spec.specs.Turn.{waitingPlaceOf}
 
 -- insurance and the decisions of seat j: kinds 7 to 14
 pub record Guest (e : Entry) (j : ℕ) : Type 0 where
@@ -113,7 +113,7 @@ pub record Draws (t : Table) (shoe : Shoe) (k : ℕ) : Type 0 where
 pub draws-none : (t : Table) → Sound t → Draws t (t .shoe) 0
 draws-none t sound = record { same-order = refl; same-discards = refl; same-discarded = refl; more-drawn = omega arith; enough = omega (arith, sound .drawn) }
 
-pub draws-some : (t : Table) (k : ℕ) → k ≤ cardsLeft t → 0 < k → Draws t (drawn (t .shoe) k) k
+pub draws-some : (t : Table) (k : ℕ) → k ≤ cardsLeft t → 0 < k → Draws t (withDrawn (t .shoe) k) k
 draws-some t k left some = record { same-order = refl; same-discards = refl; same-discarded = refl; more-drawn = refl; enough = omega arith }
 
 pub record Decided (t : Table) (e : Entry) (j tray : ℕ) (s : Seat) (shoe : Shoe) (k more won : ℕ) : Type 0 where
@@ -125,7 +125,7 @@ pub record Decided (t : Table) (e : Entry) (j tray : ℕ) (s : Seat) (shoe : Sho
   pub has-hands : 0 < s .hands .many
   pub playing : Playing (t .options) (isDealt t) s
   pub insurance-is : insurance s ≡ cond (isInsure e) (amountOf e) (insurance (seatAt t j))
-  pub hands-are : (c : Cards) → CardsAgree c t → hands s ≡ decide (hands (seatAt t j)) (turnPlace t j) c e
+  pub hands-are : (c : Cards) → CardsAgree c t → hands s ≡ decide (hands (seatAt t j)) (waitingPlaceOf t j) c e
   pub lays-it : lays j (stake (seatAt t j)) e ≡ more
   pub wins-it : (c : Cards) → CardsAgree c t → wins (t .options) c j (stake (seatAt t j)) (hands (seatAt t j)) e ≡ won
   pub laid-grows : laid s ≡ laid (seatAt t j) + more

@@ -21,11 +21,11 @@ use Rattle.table.specs.declared.Table.{Table}
 use Rattle.table.specs.Seat.{purse, stake, insurance, hands, laid, prizes, seatCards}
 use Rattle.table.specs.Table.{seatAt, tableShoe}
 use Rattle.table.specs.Shape.{Shaped, ShapedSeat}
-use Rattle.table.specs.Sound.{Sound, SoundHand}
+use Rattle.table.specs.Aids.Sound.{Sound, SoundHand}
 use Rattle.table.proofs.SeatHands.{laid-playing, seat-cards, with-hand, hands-with, shaped-with, each-with, sum-with}
-use Rattle.agreement.specs.Agrees.{CardsAgree}
+use Rattle.agreement.specs.Aids.Agrees.{CardsAgree}
 use Rattle.decision_spec.specs.Round.{placeOf}
-use Rattle.decision_spec.specs.Turn.{turnPlace}
+use Rattle.decision_spec.specs.Turn.{waitingPlaceOf}
 use Rattle.decision_spec.proofs.OneCall.{Guest, Draws, Decided}
 use Rattle.decision_spec.proofs.Accepted.{Waiting, still-insured}
 
@@ -37,7 +37,7 @@ module _ (t : Table) (e : Entry) (j p tray : ℕ) (m : Money) (h : SeatHand) (sh
     pub same-insurance : m .insurance ≡ insurance (seatAt t j)
     pub full : length (h .hand .cards) ≡ 20
     pub sound-hand : SoundHand h
-    pub decides : (c : Cards) → CardsAgree c t → decide (hands (seatAt t j)) (turnPlace t j) c e ≡ set (hands (seatAt t j)) p (playedOf h)
+    pub decides : (c : Cards) → CardsAgree c t → decide (hands (seatAt t j)) (waitingPlaceOf t j) c e ≡ set (hands (seatAt t j)) p (playedOf h)
     pub lays-it : lays j (stake (seatAt t j)) e ≡ more
     pub wins-it : (c : Cards) → CardsAgree c t → wins (t .options) c j (stake (seatAt t j)) (hands (seatAt t j)) e ≡ won
     pub wager-grows : wager (stake (seatAt t j)) (playedOf h) ≡ wager (stake (seatAt t j)) (playedOf (placeOf (seatAt t j) p)) + more

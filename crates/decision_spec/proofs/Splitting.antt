@@ -17,13 +17,13 @@ use Rattle.cards.specs.Card.{rankOf, isAce}
 use Rattle.cards.specs.Hand.{cardsOf, withCard}
 use Rattle.cards.specs.Length.{couldBePlayed}
 use Rattle.cards.specs.Pair.{isPair}
-use Rattle.cards.proofs.prize.PrizeTotal.{no-prize-of-two}
+use Rattle.cards.proofs.prize_hand.PrizeTotal.{no-prize-of-two}
 use Rattle.options.proofs.Facts.{in-range-facts}
 use Rattle.rules.specs.declared.seat_hand.SeatHand.{SeatHand}
 use Rattle.rules.specs.SeatHand.{Played, playedOf}
 use Rattle.payment.specs.Wager.{wager}
 use Rattle.payment.specs.Prize.{prize}
-use Rattle.payment.proofs.stake.Bounds.{wager-single, prize-none}
+use Rattle.payment.proofs.Bounds.{wager-single, prize-none}
 use Rattle.call.specs.declared.At.{At}
 use Rattle.call.specs.declared.Call.the-variants.{Split}
 use Rattle.call.specs.Refusal.{first}
@@ -36,17 +36,17 @@ use Rattle.table.specs.declared.Money.{Money}
 use Rattle.table.specs.declared.Seat.{Seat}
 use Rattle.table.specs.declared.Table.{Table}
 use Rattle.table.specs.Seat.{money, purse, stake, insurance, hands, laid, prizes, seatCards}
-use Rattle.table.specs.Shoe.{drawn}
+use Rattle.table.specs.Shoe.{withDrawn}
 use Rattle.table.specs.Table.{seatAt, cardsLeft, tableShoe}
 use Rattle.table.specs.Shape.{Shaped, ShapedSeat}
-use Rattle.table.specs.Sound.{Sound, SoundHand}
+use Rattle.table.specs.Aids.Sound.{Sound, SoundHand}
 use Rattle.table.proofs.SeatHands.{laid-playing, seat-cards, with-two, how-many, hand-is, hands-two, shaped-two, each-two, sum-two}
 use Rattle.table.proofs.NextCards.{next-two}
-use Rattle.agreement.specs.Agrees.{CardsAgree}
+use Rattle.agreement.specs.Aids.Agrees.{CardsAgree}
 use Rattle.decision_spec.specs.Round.{roundConditions}
-use Rattle.decision_spec.specs.Turn.{turnConditions, turnPlace, turnHand}
+use Rattle.decision_spec.specs.Turn.{turnConditions, waitingPlaceOf, waitingHandOf}
 use Rattle.decision_spec.specs.Card.{cardAhead}
-use Rattle.decision_spec.specs.Split.{splitConditions, turnCard, splitHand, splitEffect}
+use Rattle.decision_spec.specs.Split.{splitConditions, pairCardOf, splitHand, splitEffect}
 use Rattle.decision_spec.proofs.OneCall.{Decided, draws-some, Decision}
 use Rattle.decision_spec.proofs.Accepted.{Waiting, in-turn, still-insured}
 use Rattle.decision_spec.proofs.Drawing.{next-card}
@@ -74,23 +74,23 @@ module _ (kept card : ℕ) where
 
 -- what the conditions give
 record Splits (t : Table) (j : ℕ) : Type 0 where
-  pair : length (cardsOf (turnHand t j .hand)) ≡ 2
+  pair : length (cardsOf (waitingHandOf t j .hand)) ≡ 2
   room : length (hands (seatAt t j)) < t .options .hands
   purse-has : stake (seatAt t j) ≤ purse (seatAt t j)
   left : 2 ≤ cardsLeft t
 
-module _ (t : Table) (at : At) (order : List ℕ) (shaped : Shaped t) (sound : Sound t) (w : Waiting t (at .seat) (turnPlace t (at .seat))) (x : Splits t (at .seat)) where
+module _ (t : Table) (at : At) (order : List ℕ) (shaped : Shaped t) (sound : Sound t) (w : Waiting t (at .seat) (waitingPlaceOf t (at .seat))) (x : Splits t (at .seat)) where
   abbrev s : Seat
   s = seatAt t (at .seat)
 
   abbrev p : ℕ
-  p = turnPlace t (at .seat)
+  p = waitingPlaceOf t (at .seat)
 
   abbrev parent : SeatHand
-  parent = splitHand (turnCard t (at .seat) 0) (cardAhead t 0)
+  parent = splitHand (pairCardOf t (at .seat) 0) (cardAhead t 0)
 
   abbrev new : SeatHand
-  new = splitHand (turnCard t (at .seat) 1) (cardAhead t 1)
+  new = splitHand (pairCardOf t (at .seat) 1) (cardAhead t 1)
 
   abbrev new-money : Money
   new-money = money (purse s - stake s) (stake s) (insurance s)
@@ -105,9 +105,9 @@ module _ (t : Table) (at : At) (order : List ℕ) (shaped : Shaped t) (sound : S
   fewer = omega (arith, many, x .room, in-range-facts (t .options) (sound .options) .hands-most)
 
   now-shaped : ShapedSeat now
-  now-shaped = shaped-two s p (w .seat .shaped) (w .seat .few) (w .here) new-money parent new (split-full (turnCard t (at .seat) 0) (cardAhead t 0)) (split-full (turnCard t (at .seat) 1) (cardAhead t 1))
+  now-shaped = shaped-two s p (w .seat .shaped) (w .seat .few) (w .here) new-money parent new (split-full (pairCardOf t (at .seat) 0) (cardAhead t 0)) (split-full (pairCardOf t (at .seat) 1) (cardAhead t 1))
 
-  over-hands : (f : Played → ℕ) → sum f (hands now) + f (playedOf (turnHand t (at .seat))) ≡ sum f (hands s) + f (playedOf parent) + f (playedOf new)
+  over-hands : (f : Played → ℕ) → sum f (hands now) + f (playedOf (waitingHandOf t (at .seat))) ≡ sum f (hands s) + f (playedOf parent) + f (playedOf new)
   over-hands f = sum-two s p (w .seat .shaped) (w .seat .few) (w .here) new-money parent new fewer f
 
   now-laid : laid now ≡ laid s + stake s
@@ -119,7 +119,7 @@ module _ (t : Table) (at : At) (order : List ℕ) (shaped : Shaped t) (sound : S
         over-hands (wager (stake s)),
         wager-single (stake s) (playedOf parent) (λ b. omega arith),
         wager-single (stake s) (playedOf new) (λ b. omega arith),
-        wager-single (stake s) (playedOf (turnHand t (at .seat))) (λ b. omega (arith, w .not-ended)),
+        wager-single (stake s) (playedOf (waitingHandOf t (at .seat))) (λ b. omega (arith, w .not-ended)),
       )
 
   no-prize : (h : SeatHand) → length (cardsOf (h .hand)) ≡ 2 → prize (t .options) (stake s) (playedOf h) ≡ 0
@@ -129,11 +129,11 @@ module _ (t : Table) (at : At) (order : List ℕ) (shaped : Shaped t) (sound : S
   unfolding prizes
   now-prizes =
       omega
-      (arith, over-hands (prize (t .options) (stake s)), no-prize (turnHand t (at .seat)) (x .pair), no-prize parent (split-two (turnCard t (at .seat) 0) (cardAhead t 0)), no-prize new (split-two (turnCard t (at .seat) 1) (cardAhead t 1)))
+      (arith, over-hands (prize (t .options) (stake s)), no-prize (waitingHandOf t (at .seat)) (x .pair), no-prize parent (split-two (pairCardOf t (at .seat) 0) (cardAhead t 0)), no-prize new (split-two (pairCardOf t (at .seat) 1) (cardAhead t 1)))
 
   -- the two cards of the pair
-  kept : cardsOf (turnHand t (at .seat) .hand) ≡ turnCard t (at .seat) 0 ∷ turnCard t (at .seat) 1 ∷ []
-  kept = let xs = cardsOf (turnHand t (at .seat) .hand) in sym (take-all 2 xs (omega (arith, x .pair))) ∙ take-two xs 2 0 refl (omega (arith, x .pair))
+  kept : cardsOf (waitingHandOf t (at .seat) .hand) ≡ pairCardOf t (at .seat) 0 ∷ pairCardOf t (at .seat) 1 ∷ []
+  kept = let xs = cardsOf (waitingHandOf t (at .seat) .hand) in sym (take-all 2 xs (omega (arith, x .pair))) ∙ take-two xs 2 0 refl (omega (arith, x .pair))
 
   now-cards : (v : ℕ → ℕ) → sum v (seatCards now) ≡ sum v (seatCards s) + sum v (take 2 (tableShoe t))
   unfolding sum
@@ -143,8 +143,8 @@ module _ (t : Table) (at : At) (order : List ℕ) (shaped : Shaped t) (sound : S
         seat-cards v now,
         seat-cards v s,
         over-hands (λ h. sum v (h .cards)),
-        ap (sum v) (split-cards (turnCard t (at .seat) 0) (cardAhead t 0)),
-        ap (sum v) (split-cards (turnCard t (at .seat) 1) (cardAhead t 1)),
+        ap (sum v) (split-cards (pairCardOf t (at .seat) 0) (cardAhead t 0)),
+        ap (sum v) (split-cards (pairCardOf t (at .seat) 1) (cardAhead t 1)),
         ap (sum v) kept,
         ap (sum v) (next-two t shaped sound (omega (arith, x .left))),
       )
@@ -153,14 +153,14 @@ module _ (t : Table) (at : At) (order : List ℕ) (shaped : Shaped t) (sound : S
   unfolding decide splitHands
   now-hands c agree =
       let hs = hands s in
-      let old = playedOf (turnHand t (at .seat)) in
+      let old = playedOf (waitingHandOf t (at .seat)) in
       let both : Played → ℕ → ℕ → List Played = λ h a b. two-for hs p (splitOne (getD (h .cards) 0 0) a) (splitOne (getD (h .cards) 1 0) b) in
       hands-two s p (w .seat .shaped) (w .seat .few) (w .here) new-money parent new fewer
-      ∙ ap₂ (two-for hs p) (split-played (turnCard t (at .seat) 0) (cardAhead t 0)) (split-played (turnCard t (at .seat) 1) (cardAhead t 1))
+      ∙ ap₂ (two-for hs p) (split-played (pairCardOf t (at .seat) 0) (cardAhead t 0)) (split-played (pairCardOf t (at .seat) 1) (cardAhead t 1))
       ∙ ap₂ (both old) (sym (next-card t c 0 agree (omega (arith, x .left)))) (sym (next-card t c 1 agree (omega (arith, x .left))))
       ∙ ap (λ (h : Played). both h (nextCard c 0) (nextCard c 1)) (sym (hand-is s p (w .seat .shaped) (w .seat .few) (w .here)))
 
-  decided : Decided t (entry (Split at) order) (at .seat) (t .tray) now (drawn (t .shoe) 2) 2 (stake s) 0
+  decided : Decided t (entry (Split at) order) (at .seat) (t .tray) now (withDrawn (t .shoe) 2) 2 (stake s) 0
   unfolding lays wins callTakes
   decided =
       record {
@@ -177,7 +177,7 @@ module _ (t : Table) (at : At) (order : List ℕ) (shaped : Shaped t) (sound : S
               within = omega (arith, many, x .room);
               each =
                   each-two s p (w .seat .shaped) (w .seat .few) (w .here) new-money parent new fewer (w .seat .playing .each)
-                  (split-sound (turnCard t (at .seat) 0) (cardAhead t 0)) (split-sound (turnCard t (at .seat) 1) (cardAhead t 1));
+                  (split-sound (pairCardOf t (at .seat) 0) (cardAhead t 0)) (split-sound (pairCardOf t (at .seat) 1) (cardAhead t 1));
             };
         insurance-is = refl;
         hands-are = now-hands;
@@ -197,7 +197,7 @@ pub split-decides : (t : Table) (at : At) (order : List ℕ) → Shaped t → So
 unfolding splitConditions splitEffect turnConditions roundConditions isPair all
 split-decides t at order shaped sound e =
     let j = at .seat in
-    let cards = cardsOf (turnHand t j .hand) in
+    let cards = cardsOf (waitingHandOf t j .hand) in
     let S = stake (seatAt t j) in
     let many = length (hands (seatAt t j)) in
     let holds : (k : ℕ) → getD (splitConditions t j) k (0, false) .1 ≡ false = λ k. accepted-at (splitConditions t j) k refl e in
@@ -215,7 +215,7 @@ split-decides t at order shaped sound e =
       j = j;
       tray = t .tray;
       seat = now t at order shaped sound w x;
-      shoe = drawn (t .shoe) 2;
+      shoe = withDrawn (t .shoe) 2;
       k = 2;
       more = S;
       won = 0;

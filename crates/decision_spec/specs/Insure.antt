@@ -8,7 +8,7 @@ use Rattle.cards.specs.Card.{isAce}
 use Rattle.table.specs.declared.Table.{Table}
 use Rattle.table.specs.Seat.{money, makeSeat, purse, stake, insurance}
 use Rattle.table.specs.Table.{withSeat, seatAt, up}
-use Rattle.table.specs.Broken.{insurancePermitted}
+use Rattle.options.specs.Permitted.{insurancePermitted}
 use Rattle.decision_spec.specs.Round.{roundConditions, noStake, anyDecided}
 
 unfoldable pub insureConditions : Table → ℕ → ℕ → List Condition

@@ -10,7 +10,7 @@ use Rattle.rules.specs.declared.seat_hand.SeatHand.{SeatHand}
 use Rattle.rules.specs.Drew.{seatDrew}
 use Rattle.table.specs.declared.Seat.{Seat}
 use Rattle.table.specs.declared.Table.{Table}
-use Rattle.table.specs.Seat.{noPlace, makeSeat, isStaked}
+use Rattle.table.specs.Seat.{missingPlace, makeSeat, isStaked}
 use Rattle.table.specs.Table.{seatAt, seatsHands, isDealt}
 use Rattle.table.specs.Broken.{broken}
 
@@ -32,7 +32,7 @@ noStake t j = not (isStaked (seatAt t j))
 
 -- The hand at a place, and the seat with another hand there.
 abbrev pub placeOf : Seat → ℕ → SeatHand
-placeOf s p = getD (s .hands .places) p noPlace
+placeOf s p = getD (s .hands .places) p missingPlace
 
 abbrev pub withPlace : Seat → ℕ → SeatHand → Seat
 withPlace s p h = makeSeat (s .money) (record { places = set (s .hands .places) p h; many = s .hands .many })

@@ -12,24 +12,24 @@ use Rattle.rules.specs.declared.seat_hand.SeatHand.{SeatHand}
 use Rattle.rules.specs.SeatHand.{split, splitAces, notEnded}
 use Rattle.table.specs.declared.Table.{Table}
 use Rattle.table.specs.Seat.{money, makeSeat, purse, stake, insurance, hands}
-use Rattle.table.specs.Shoe.{drawn}
+use Rattle.table.specs.Shoe.{withDrawn}
 use Rattle.table.specs.Table.{makeTable, seatAt, cardsLeft}
-use Rattle.decision_spec.specs.Turn.{turnConditions, turnPlace, turnHand}
+use Rattle.decision_spec.specs.Turn.{turnConditions, waitingPlaceOf, waitingHandOf}
 use Rattle.decision_spec.specs.Card.{cardAhead}
 
 -- 13 has two causes: no pair, or the seat's hands are used up.
 unfoldable pub splitConditions : Table → ℕ → List Condition
 splitConditions t j =
     turnConditions t j
-    ++ (13, not (isPair (cardsOf (turnHand t j .hand))))
+    ++ (13, not (isPair (cardsOf (waitingHandOf t j .hand))))
     ∷ (13, leb (t .options .hands) (length (hands (seatAt t j))))
     ∷ (15, ltb (purse (seatAt t j)) (stake (seatAt t j)))
     ∷ (18, ltb (cardsLeft t) 2)
     ∷ []
 
 -- The card at a place of the hand whose turn it is.
-abbrev pub turnCard : Table → ℕ → ℕ → ℕ
-turnCard t j k = getD (cardsOf (turnHand t j .hand)) k 0
+abbrev pub pairCardOf : Table → ℕ → ℕ → ℕ
+pairCardOf t j k = getD (cardsOf (waitingHandOf t j .hand)) k 0
 
 -- A hand of a kept card and a drawn one; from split aces where the kept card is an ace.
 abbrev pub splitHand : ℕ → ℕ → SeatHand
@@ -43,10 +43,10 @@ splitPlaces places p parent new = take 4 (take p places ++ parent ∷ new ∷ dr
 unfoldable pub splitEffect : Table → ℕ → Table
 splitEffect t j =
     let s = seatAt t j in
-    let parent = splitHand (turnCard t j 0) (cardAhead t 0) in
-    let new = splitHand (turnCard t j 1) (cardAhead t 1) in
+    let parent = splitHand (pairCardOf t j 0) (cardAhead t 0) in
+    let new = splitHand (pairCardOf t j 1) (cardAhead t 1) in
     makeTable (t .options) (t .tray)
     (set (t .seats) j
     (makeSeat (money (purse s - stake s) (stake s) (insurance s))
-    (record { places = splitPlaces (s .hands .places) (turnPlace t j) parent new; many = s .hands .many + 1 })))
-    (t .bank) (drawn (t .shoe) 2)
+    (record { places = splitPlaces (s .hands .places) (waitingPlaceOf t j) parent new; many = s .hands .many + 1 })))
+    (t .bank) (withDrawn (t .shoe) 2)

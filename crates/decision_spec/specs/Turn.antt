@@ -19,16 +19,16 @@ unfoldable pub turnConditions : Table → ℕ → List Condition
 turnConditions t j = roundConditions t j ++ (10, noStake t j) ∷ (11, not (eqb (turnSeat (t .options) (up t) (seatsHands t)) j)) ∷ []
 
 -- The place of the seat's first waiting hand, and that hand.
-abbrev pub turnPlace : Table → ℕ → ℕ
-turnPlace t j = waitingPlace (t .options) (up t) (hands (seatAt t j))
+abbrev pub waitingPlaceOf : Table → ℕ → ℕ
+waitingPlaceOf t j = waitingPlace (t .options) (up t) (hands (seatAt t j))
 
-abbrev pub turnHand : Table → ℕ → SeatHand
-turnHand t j = placeOf (seatAt t j) (turnPlace t j)
+abbrev pub waitingHandOf : Table → ℕ → SeatHand
+waitingHandOf t j = placeOf (seatAt t j) (waitingPlaceOf t j)
 
 -- What the rules say of that hand (`permits`, over the options, the up card and the seat's number of hands).
 abbrev pub mayTake : (Options → ℕ → ℕ → Played → Bool) → Table → ℕ → Bool
-mayTake permits t j = permits (t .options) (up t) (length (hands (seatAt t j))) (playedOf (turnHand t j))
+mayTake permits t j = permits (t .options) (up t) (length (hands (seatAt t j))) (playedOf (waitingHandOf t j))
 
 -- The hand whose turn it is ends by this decision.
 unfoldable pub endEffect : ℕ → Table → ℕ → Table
-endEffect code t j = withSeat t j (withPlace (seatAt t j) (turnPlace t j) (endedBy (turnHand t j) code))
+endEffect code t j = withSeat t j (withPlace (seatAt t j) (waitingPlaceOf t j) (endedBy (waitingHandOf t j) code))

@@ -9,10 +9,10 @@ ghost use Rattle.decision_spec.specs.Turn.{endEffect};
 ghost use Rattle.decision_spec.specs.Stand.{standConditions, standEffect};
 ghost use Rattle.decision_spec.specs.Even.{evenConditions, evenEffect};
 ghost use Rattle.decision_spec.specs.Five.{fiveConditions, fiveEffect};
-ghost use Rattle.decisions.specs.Leave.{mayLeave, leaveConditions};
+ghost use Rattle.decisions.specs.Aids.Leave.{mayLeave, leaveConditions};
 use crate::ended::answer;
-use crate::in_turn::turn_hand;
-use crate::in_turn::turn_number;
+use crate::turn::waiting_hand;
+use crate::turn::turn_number;
 use answer::outcome::Outcome;
 use call::At;
 use options::Options;
@@ -23,7 +23,7 @@ use rules::seat_hand::BY_FIVE;
 use rules::seat_hand::BY_STAND;
 use rules::seat_hand::used;
 use state::round::up;
-use state::seat_at::seat_of;
+use state::seat::seat_at;
 use table::Seat;
 use table::Table;
 
@@ -42,7 +42,7 @@ fn may_leave(o: Options, card: u8, s: Seat, code: u8) -> bool
 {
     let hands = s.hands;
     let many = used(hands);
-    let h = turn_hand(o, card, s);
+    let h = waiting_hand(o, card, s);
     if code == BY_EVEN {
         return permits_even(o, card, many, h);
     }
@@ -58,7 +58,7 @@ fn leave_number(t: Table, at: At, code: u8) -> u8
         return number;
     }
     let o = t.options;
-    let s = seat_of(t, at.seat as usize);
+    let s = seat_at(t, at.seat as usize);
     let card = up(t);
     if !may_leave(o, card, s, code) {
         return 13;

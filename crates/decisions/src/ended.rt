@@ -7,16 +7,16 @@ ghost use Rattle.table.specs.Seat.{hands as handsOf};
 ghost use Rattle.answer.specs.Outcome.{makeOutcome};
 ghost use Rattle.decision_spec.specs.Turn.{endEffect};
 ghost use Rattle.decisions.specs.Aids.InTurn.{InTurn};
-ghost use Rattle.decisions.specs.Ended.{endedSeat};
-use crate::in_turn::turn_hand;
-use crate::in_turn::with_place;
+ghost use Rattle.decisions.specs.Aids.Ended.{endedSeat};
+use crate::turn::waiting_hand;
+use crate::turn::with_place;
 use answer::outcome::Outcome;
 use call::At;
 use options::Options;
 use rules::turn::waiting_place;
 use state::round::up;
-use state::seat_at::seat_of;
-use state::seats::with_seat;
+use state::seat::seat_at;
+use state::seat::with_seat;
 use table::Seat;
 use table::Table;
 
@@ -27,7 +27,7 @@ fn ended_seat(o: Options, card: u8, s: Seat, code: u8) -> Seat
 {
     let hands = s.hands;
     let p = waiting_place(o, card, hands);
-    let mut h = turn_hand(o, card, s);
+    let mut h = waiting_hand(o, card, s);
     h.ended = code;
     with_place(s, p, h)
 }
@@ -38,7 +38,7 @@ fn ended(t: Table, at: At, code: u8) -> Table
 {
     let o = t.options;
     let j = at.seat as usize;
-    let s = seat_of(t, j);
+    let s = seat_at(t, j);
     let card = up(t);
     let next = ended_seat(o, card, s, code);
     with_seat(t, j, next)

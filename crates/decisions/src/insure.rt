@@ -12,10 +12,10 @@ use answer::outcome::Outcome;
 use broken::broken;
 use call::At;
 use cards::card::is_ace;
-use money::amounts::insurance_permitted;
+use options::permitted::insurance_permitted;
 use state::round::up;
-use state::seat_at::seat_of;
-use state::seats::with_seat;
+use state::seat::seat_at;
+use state::seat::with_seat;
 use table::Seat;
 use table::Table;
 
@@ -40,7 +40,7 @@ fn insure_number(t: Table, at: At, n: u64) -> u8
         return number;
     }
     let o = t.options;
-    let s = seat_of(t, at.seat as usize);
+    let s = seat_at(t, at.seat as usize);
     let money = s.money;
     if 0 < money.insurance {
         return 9;
@@ -74,7 +74,7 @@ pub fn insure(t: Table, at: At, n: u64) -> Outcome
         return Outcome { number, table: t };
     }
     let j = at.seat as usize;
-    let s = seat_of(t, j);
+    let s = seat_at(t, j);
     Outcome {
         number,
         table: with_seat(t, j, insured(s, n)),

@@ -2,7 +2,7 @@
 pub mod end;
 pub mod ended;
 pub mod in_round;
-pub mod in_turn;
 pub mod insure;
 pub mod progress;
 pub mod surrender;
+pub mod turn;

@@ -5,7 +5,7 @@ ghost use Rattle.lists.specs.Tests.{any};
 ghost use Rattle.rules.specs.SeatHand.{handsOf};
 ghost use Rattle.table.specs.Table.{seatsHands};
 ghost use Rattle.decision_spec.specs.Round.{anyDrew, anyDecided};
-ghost use Rattle.decisions.specs.Acted.{acted};
+ghost use Rattle.decisions.specs.Aids.Acted.{acted};
 use rules::drew::seat_drew;
 use rules::seat_hand::NOT_ENDED;
 use rules::seat_hand::SeatHands;

@@ -7,7 +7,7 @@ ghost use Rattle.answer.specs.Outcome.{outcome};
 ghost use Rattle.decision_spec.specs.Round.{placeOf, withPlace, endedBy};
 ghost use Rattle.decision_spec.specs.Surrender.{surrenderConditions, surrenderEffect};
 use crate::in_round::round_number;
-use crate::in_turn::with_place;
+use crate::turn::with_place;
 use crate::progress::any_drew;
 use answer::outcome::Outcome;
 use broken::broken;
@@ -16,8 +16,8 @@ use cards::card::is_ace;
 use rules::seat_hand::BY_SURRENDER;
 use rules::turn::seat_waits;
 use state::round::up;
-use state::seat_at::seat_of;
-use state::seats::with_seat;
+use state::seat::seat_at;
+use state::seat::with_seat;
 use table::Seat;
 use table::Table;
 
@@ -31,7 +31,7 @@ fn surrender_number(t: Table, at: At) -> u8
     }
     let o = t.options;
     let card = up(t);
-    let s = seat_of(t, at.seat as usize);
+    let s = seat_at(t, at.seat as usize);
     let hands = s.hands;
     let money = s.money;
     if !(0 < money.stake) {
@@ -64,7 +64,7 @@ fn surrendered(t: Table, at: At) -> Table
     ensures { λ r. ⌜ r ≡ surrenderEffect t (at .seat) ⌝ }
 {
     let j = at.seat as usize;
-    let s = seat_of(t, j);
+    let s = seat_at(t, j);
     let next = surrendered_seat(s);
     with_seat(t, j, next)
 }

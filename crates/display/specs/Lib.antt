@@ -1,6 +1,6 @@
 -- What a display reads of the whole table.
-pub mod DisplayShown
+pub mod Table
 -- What a display reads of a seat.
-pub mod SeatDisplayShown
+pub mod Seat
 -- What a display reads of a hand.
-pub mod HandDisplayShown
+pub mod Hand

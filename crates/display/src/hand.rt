@@ -1,16 +1,16 @@
 // What a display reads of a hand in its place. A broken table, a seat beyond the option and a place with no hand show nothing.
 ghost use mathlib.Core.Path.{_≡_};
-ghost use Rattle.display.specs.HandDisplayShown.{nothingShown, handValues, placeShown, handShown};
+ghost use Rattle.display.specs.Hand.{noHandShown, handValues, placeShown, handShown};
 use broken::broken;
 use cards::hand::Hand;
 use cards::hand::empty_hand;
 use cards::total::total;
-use payment::stake::wager;
+use payment::wager::wager;
 use rules::seat_hand::DEALT;
 use rules::seat_hand::NOT_ENDED;
 use rules::seat_hand::SeatHand;
 use rules::seat_hand::used;
-use state::seat_at::seat_of;
+use state::seat::seat_at;
 use table::Seat;
 use table::Table;
 
@@ -24,7 +24,7 @@ pub struct HandShown {
 }
 
 fn no_hand() -> HandShown
-    ensures { λ r. ⌜ r ≡ nothingShown ⌝ }
+    ensures { λ r. ⌜ r ≡ noHandShown ⌝ }
 {
     HandShown {
         hand: empty_hand(),
@@ -71,6 +71,6 @@ pub fn shown_hand(t: Table, seat: u8, place: usize) -> HandShown
     if o.seats <= seat {
         return no_hand();
     }
-    let s = seat_of(t, seat as usize);
+    let s = seat_at(t, seat as usize);
     shown_place(s, place)
 }

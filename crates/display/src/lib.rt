@@ -3,16 +3,16 @@ pub mod hand;
 pub mod seat;
 
 ghost use mathlib.Core.Path.{_≡_};
-ghost use Rattle.display.specs.DisplayShown.{noTableShown, tableShown, nobodysTurn, turnShown};
+ghost use Rattle.display.specs.Table.{noTableShown, tableShown, nobodysTurn, turnShown};
 use broken::broken;
 use cards::hand::Hand;
 use cards::hand::empty_hand;
 use money::sums::table_sums;
 use options::Options;
-use state::blank::no_options;
+use state::empty::no_options;
 use state::round::cards_left;
-use state::turn_places::turn_place;
-use state::turns::turn_seat;
+use state::turn::place_in_turn;
+use state::turn::seat_in_turn;
 use table::Table;
 
 // The options; the tray, all layout and all purses; how many cards are left, how many are discards, and the bank's cards.
@@ -84,13 +84,13 @@ pub fn shown_turn(t: Table) -> TurnShown
     if broken(t) {
         return nobody();
     }
-    let seat = turn_seat(t);
+    let seat = seat_in_turn(t);
     if 9 <= seat {
         return nobody();
     }
     TurnShown {
         somebody: true,
         seat,
-        place: turn_place(t),
+        place: place_in_turn(t),
     }
 }

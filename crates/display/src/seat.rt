@@ -1,12 +1,12 @@
 // What a display reads of a seat. A broken table and a seat beyond the option show nothing.
 ghost use mathlib.Core.Path.{_≡_};
-ghost use Rattle.display.specs.SeatDisplayShown.{noSeatShown, seatValues, seatShown};
+ghost use Rattle.display.specs.Seat.{noSeatShown, seatValues, seatShown};
 use broken::broken;
 use money::seat_money::laid;
 use money::seat_money::prizes;
 use options::Options;
 use rules::seat_hand::used;
-use state::seat_at::seat_of;
+use state::seat::seat_at;
 use table::Seat;
 use table::Table;
 
@@ -58,6 +58,6 @@ pub fn shown_seat(t: Table, seat: u8) -> SeatShown
     if o.seats <= seat {
         return no_seat();
     }
-    let s = seat_of(t, seat as usize);
+    let s = seat_at(t, seat as usize);
     seat_values(o, s)
 }

@@ -1,5 +1,4 @@
 -- What draw and double share.
-pub mod Grow
-pub mod Drawable
 -- The part of a split that is one seat's.
-pub mod SplitSeat
+-- What only proofs and the contracts of private functions cite: nothing here has to be believed.
+pub mod Aids

@@ -11,30 +11,30 @@ ghost use Rattle.decision_spec.specs.Round.{placeOf};
 ghost use Rattle.decision_spec.specs.Card.{cardEffect};
 ghost use Rattle.decision_spec.specs.Draw.{drawConditions, drawEffect};
 ghost use Rattle.decision_spec.specs.Double.{doubleConditions, doubleEffect};
-ghost use Rattle.draw.specs.Grow.{moreOf, mayGrow, growConditions, grownBy, grownSeat};
-ghost use Rattle.draw.specs.Drawable.{Drawable};
+ghost use Rattle.draw.specs.Aids.Grow.{moreOf, mayGrow, growConditions, grownBy, grownSeat};
+ghost use Rattle.draw.specs.Aids.Drawable.{Drawable};
 use answer::outcome::Outcome;
 use call::At;
 use cards::hand::with_card;
-use decisions::in_turn::turn_hand;
-use decisions::in_turn::turn_number;
-use decisions::in_turn::with_place;
+use decisions::turn::waiting_hand;
+use decisions::turn::turn_number;
+use decisions::turn::with_place;
 use options::Options;
-use payment::stake::prize;
-use rules::permission::permits_double;
-use rules::permission::permits_draw;
+use payment::prize::prize;
+use rules::permits::permits_double;
+use rules::permits::permits_draw;
 use rules::seat_hand::BY_DOUBLE;
 use rules::seat_hand::NOT_ENDED;
 use rules::seat_hand::SeatHand;
 use rules::seat_hand::used;
 use rules::turn::waiting_place;
 use shoe::card_ahead;
-use shoe::draw_cards;
+use shoe::with_drawn;
 use state::round::cards_left;
 use state::round::up;
-use state::seat_at::seat_of;
-use state::seats::with_purse;
-use state::seats::with_seat;
+use state::seat::seat_at;
+use state::seat::with_purse;
+use state::seat::with_seat;
 use table::Seat;
 use table::Table;
 
@@ -53,7 +53,7 @@ fn may_grow(o: Options, card: u8, s: Seat, code: u8) -> bool
 {
     let hands = s.hands;
     let many = used(hands);
-    let h = turn_hand(o, card, s);
+    let h = waiting_hand(o, card, s);
     if code == BY_DOUBLE {
         return permits_double(o, card, many, h);
     }
@@ -65,7 +65,7 @@ fn grown(o: Options, card: u8, s: Seat, next: u8, code: u8) -> SeatHand
     requires { ⌜ seatWaits o card (handsOf s) ≡ true ⌝ }
     ensures { λ r. ⌜ r ≡ grownBy (placeOf s (waitingPlace o card (handsOf s))) next code ⌝ }
 {
-    let h = turn_hand(o, card, s);
+    let h = waiting_hand(o, card, s);
     let old = h.hand;
     let hand = with_card(old, next);
     SeatHand {
@@ -94,13 +94,13 @@ fn with_next_card(t: Table, at: At, code: u8) -> Table
     let order = shoe.order;
     let j = at.seat as usize;
     let card = up(t);
-    let s = seat_of(t, j);
+    let s = seat_at(t, j);
     let money = s.money;
     let h = grown(o, card, s, card_ahead(&order[..], shoe.drawn, 0), code);
     let won = prize(o, money.stake, h);
     let more = more_of(s, code) as u64;
     let seat = grown_seat(o, card, s, h, money.purse - more + won);
-    let rest = draw_cards(shoe, 1);
+    let rest = with_drawn(shoe, 1);
     let mut next = with_seat(t, j, seat);
     next.tray = t.tray - won;
     next.shoe = rest;
@@ -116,7 +116,7 @@ fn grow_number(t: Table, at: At, code: u8) -> u8
         return number;
     }
     let o = t.options;
-    let s = seat_of(t, at.seat as usize);
+    let s = seat_at(t, at.seat as usize);
     let card = up(t);
     let money = s.money;
     if !may_grow(o, card, s, code) {

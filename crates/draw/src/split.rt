@@ -9,7 +9,7 @@ ghost use Rattle.rules.specs.Turn.{seatWaits};
 ghost use Rattle.table.specs.Seat.{hands as handsOf};
 ghost use Rattle.answer.specs.Outcome.{outcome};
 ghost use Rattle.decision_spec.specs.Split.{splitConditions, splitEffect, splitHand, splitPlaces};
-ghost use Rattle.draw.specs.SplitSeat.{pairConditions, splitSeat, Pays, Splits};
+ghost use Rattle.draw.specs.Aids.SplitSeat.{pairConditions, splitSeat, Pays, Splits};
 use answer::outcome::Outcome;
 use call::At;
 use cards::card::is_ace;
@@ -17,8 +17,8 @@ use cards::hand::Hand;
 use cards::hand::empty_hand;
 use cards::hand::with_card;
 use cards::pair::is_pair;
-use decisions::in_turn::turn_hand;
-use decisions::in_turn::turn_number;
+use decisions::turn::waiting_hand;
+use decisions::turn::turn_number;
 use options::Options;
 use rules::seat_hand::NOT_ENDED;
 use rules::seat_hand::SPLIT;
@@ -28,12 +28,12 @@ use rules::seat_hand::SeatHands;
 use rules::seat_hand::used;
 use rules::turn::waiting_place;
 use shoe::card_ahead;
-use shoe::draw_cards;
+use shoe::with_drawn;
 use state::round::cards_left;
 use state::round::up;
-use state::seat_at::seat_of;
-use state::seats::with_purse;
-use state::seats::with_seat;
+use state::seat::seat_at;
+use state::seat::with_purse;
+use state::seat::with_seat;
 use table::Seat;
 use table::Table;
 
@@ -98,7 +98,7 @@ fn split_seat(o: Options, card: u8, s: Seat, first: u8, second: u8) -> Seat
     let money = s.money;
     let old = hands.places;
     let p = waiting_place(o, card, hands);
-    let h = turn_hand(o, card, s);
+    let h = waiting_hand(o, card, s);
     let pair = h.hand;
     let parent = split_hand(kept_card(pair, 0), first);
     let new = split_hand(kept_card(pair, 1), second);
@@ -116,14 +116,14 @@ fn split_table(t: Table, at: At) -> Table
 {
     let o = t.options;
     let j = at.seat as usize;
-    let s = seat_of(t, j);
+    let s = seat_at(t, j);
     let card = up(t);
     let shoe = t.shoe;
     let order = shoe.order;
     let first = card_ahead(&order[..], shoe.drawn, 0);
     let second = card_ahead(&order[..], shoe.drawn, 1);
     let next = split_seat(o, card, s, first, second);
-    let rest = draw_cards(shoe, 2);
+    let rest = with_drawn(shoe, 2);
     let mut after = with_seat(t, j, next);
     after.shoe = rest;
     after
@@ -136,7 +136,7 @@ fn pair_number(o: Options, card: u8, s: Seat) -> u8
 {
     let hands = s.hands;
     let money = s.money;
-    let h = turn_hand(o, card, s);
+    let h = waiting_hand(o, card, s);
     let pair = h.hand;
     if !is_pair(pair) {
         return 13;
@@ -159,7 +159,7 @@ fn split_number(t: Table, at: At) -> u8
         return number;
     }
     let o = t.options;
-    let s = seat_of(t, at.seat as usize);
+    let s = seat_at(t, at.seat as usize);
     let card = up(t);
     let asked = pair_number(o, card, s);
     if asked != 0 {

@@ -19,7 +19,7 @@ use Rattle.cashier_spec.specs.Cash.{cashConditions}
 use Rattle.cashier_spec.specs.Load.{loadConditions}
 use Rattle.cashier_spec.specs.Stake.{stakeConditions}
 use Rattle.deal_spec.specs.Deal.{dealConditions}
-use Rattle.deal_spec.specs.Void.{voidConditions}
+use Rattle.close_spec.specs.Void.{voidConditions}
 use Rattle.decision_spec.specs.Round.{roundConditions}
 use Rattle.decision_spec.specs.Insure.{insureConditions}
 use Rattle.decision_spec.specs.Surrender.{surrenderConditions}
@@ -30,11 +30,11 @@ use Rattle.decision_spec.specs.Split.{splitConditions}
 use Rattle.decision_spec.specs.Even.{evenConditions}
 use Rattle.decision_spec.specs.Five.{fiveConditions}
 use Rattle.close_spec.specs.Close.{closeConditions}
-use Rattle.answer.specs.Stepped.{stepped}
+use Rattle.answer.specs.Reply.{replyBy}
 use Rattle.engine.specs.Step.{number, step}
 
 pub broken-one : (t : Table) → broken t ≡ true → (c : Call) (order : List ℕ) → number t c order ≡ 1
-unfolding number first fillConditions creditConditions betweenConditions buyConditions cashConditions stakeConditions dealConditions roundConditions insureConditions turnConditions drawConditions doubleConditions splitConditions surrenderConditions evenConditions fiveConditions closeConditions voidConditions loadConditions step stepped
+unfolding number first fillConditions creditConditions betweenConditions buyConditions cashConditions stakeConditions dealConditions roundConditions insureConditions turnConditions drawConditions doubleConditions splitConditions surrenderConditions evenConditions fiveConditions closeConditions voidConditions loadConditions step replyBy
 broken-one t b (Fill n) order = simp b
 broken-one t b (Credit n) order = simp b
 broken-one t b (Buy at n) order = simp b

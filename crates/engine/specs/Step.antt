@@ -4,9 +4,9 @@ use Prim.Native.Nat.{ℕ}
 use Rattle.call.specs.declared.Call.{Call}
 use Rattle.call.specs.declared.Call.the-variants.{Fill, Credit, Buy, Cash, Stake, Deal, Insure, Stand, Draw, Double, Split, Surrender, Even, Five, Close, Void, Load}
 use Rattle.call.specs.Refusal.{Condition}
-use Rattle.call.specs.Answer.{Shown, nothing}
+use Rattle.call.specs.Answer.{Shown, emptyShown}
 use Rattle.table.specs.declared.Table.{Table}
-use Rattle.answer.specs.Stepped.{Step, stepped}
+use Rattle.answer.specs.Reply.{ReplyView, replyBy}
 use Rattle.cashier_spec.specs.Fill.{fillConditions, fillEffect}
 use Rattle.cashier_spec.specs.Credit.{creditConditions, creditEffect}
 use Rattle.cashier_spec.specs.Buy.{buyConditions, buyEffect}
@@ -14,7 +14,7 @@ use Rattle.cashier_spec.specs.Cash.{cashConditions, cashEffect}
 use Rattle.cashier_spec.specs.Load.{loadConditions, loadEffect}
 use Rattle.cashier_spec.specs.Stake.{stakeConditions, stakeEffect}
 use Rattle.deal_spec.specs.Deal.{dealConditions, dealEffect}
-use Rattle.deal_spec.specs.Void.{voidConditions, voidEffect}
+use Rattle.close_spec.specs.Void.{voidConditions, voidEffect}
 use Rattle.decision_spec.specs.Insure.{insureConditions, insureEffect}
 use Rattle.decision_spec.specs.Surrender.{surrenderConditions, surrenderEffect}
 use Rattle.decision_spec.specs.Stand.{standConditions, standEffect}
@@ -67,27 +67,27 @@ effect t Load order = loadEffect t order
 
 -- What an accepted call shows: only close shows anything.
 abbrev pub shown : Table → Call → Shown
-shown t (Fill n) = nothing
-shown t (Credit n) = nothing
-shown t (Buy at n) = nothing
-shown t (Cash at n) = nothing
-shown t (Stake at n) = nothing
-shown t Deal = nothing
-shown t (Insure at n) = nothing
-shown t (Stand at) = nothing
-shown t (Draw at) = nothing
-shown t (Double at) = nothing
-shown t (Split at) = nothing
-shown t (Surrender at) = nothing
-shown t (Even at) = nothing
-shown t (Five at) = nothing
+shown t (Fill n) = emptyShown
+shown t (Credit n) = emptyShown
+shown t (Buy at n) = emptyShown
+shown t (Cash at n) = emptyShown
+shown t (Stake at n) = emptyShown
+shown t Deal = emptyShown
+shown t (Insure at n) = emptyShown
+shown t (Stand at) = emptyShown
+shown t (Draw at) = emptyShown
+shown t (Double at) = emptyShown
+shown t (Split at) = emptyShown
+shown t (Surrender at) = emptyShown
+shown t (Even at) = emptyShown
+shown t (Five at) = emptyShown
 shown t Close = closeShown t
-shown t Void = nothing
-shown t Load = nothing
+shown t Void = emptyShown
+shown t Load = emptyShown
 
 -- One step: the answer and the next table.
-unfoldable pub step : Table → Call → List ℕ → Step
-step t c order = stepped (conditions t c order) (shown t c) (effect t c order) t
+unfoldable pub step : Table → Call → List ℕ → ReplyView
+step t c order = replyBy (conditions t c order) (shown t c) (effect t c order) t
 
 -- Its number, and the table that the next call gets.
 unfoldable pub number : Table → Call → List ℕ → ℕ

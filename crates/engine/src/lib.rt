@@ -1,15 +1,15 @@
 // One step over all seventeen calls: it takes the enum apart. The order that a load reads is lent beside the call; every other call ignores it.
 ghost use mathlib.Core.Path.{_≡_};
-ghost use Rattle.answer.specs.Stepped.{stepOf};
+ghost use Rattle.answer.specs.Reply.{viewOf};
 ghost use Rattle.engine.specs.Step.{step as stepBy};
-use answer::Stepped;
-use answer::plain_step;
+use answer::Reply;
+use answer::plain_reply;
 use call::Call;
 use close::close;
 use table::Table;
 
-pub fn step(t: Table, c: Call, order: &[u8]) -> Stepped
-    ensures { λ r. ⌜ stepOf r ≡ stepBy t c (now (order .entry)) ⌝ }
+pub fn step(t: Table, c: Call, order: &[u8]) -> Reply
+    ensures { λ r. ⌜ viewOf r ≡ stepBy t c (now (order .entry)) ⌝ }
 {
     // Close alone makes its answer itself. The empty answer of every other call is made at one place, so that the compiler copies the table less
     // often.
@@ -29,8 +29,8 @@ pub fn step(t: Table, c: Call, order: &[u8]) -> Stepped
         Call::Even(at) => decisions::end::even(t, at),
         Call::Five(at) => decisions::end::five(t, at),
         Call::Close => return close(t),
-        Call::Void => deal::void::void(t),
+        Call::Void => close::void::void(t),
         Call::Load => cashier::load::load(t, order),
     };
-    plain_step(o)
+    plain_reply(o)
 }

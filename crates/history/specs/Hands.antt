@@ -17,8 +17,8 @@ abbrev pub played : List ℕ → ℕ → ℕ → Played
 played cards origin ended = record { cards = cards; origin = origin; ended = ended }
 
 -- What stands where a seat has no such hand.
-abbrev pub noHand : Played
-noHand = played [] dealt notEnded
+abbrev pub missingHand : Played
+missingHand = played [] dealt notEnded
 
 -- A deal: behind the burn lie a first card for each staked seat from the lowest, the bank's, then a second for each.
 -- The seat has `before` staked seats below it, of `staked` in all.
@@ -36,8 +36,8 @@ nextCard c n = getD (c .order) (c .taken + n) 0
 abbrev pub grown : Played → ℕ → Played
 grown h card = played (h .cards ++ (card ∷ [])) (h .origin) (h .ended)
 
-abbrev pub ended : Played → ℕ → Played
-ended h code = played (h .cards) (h .origin) code
+abbrev pub finished : Played → ℕ → Played
+finished h code = played (h .cards) (h .origin) code
 
 -- The two hands of a split: each keeps a card of the pair and takes one, the parent first.
 unfoldable pub splitOne : ℕ → ℕ → Played
@@ -45,20 +45,20 @@ splitOne kept card = played (kept ∷ card ∷ []) (cond (isAce kept) splitAces 
 
 unfoldable pub splitHands : List Played → ℕ → Cards → List Played
 splitHands hands p c =
-    let pair = getD hands p noHand .cards in
+    let pair = getD hands p missingHand .cards in
     take p hands ++ splitOne (getD pair 0 0) (nextCard c 0) ∷ splitOne (getD pair 1 0) (nextCard c 1) ∷ drop (suc p) hands
 
 -- What a decision of the seat makes of its hands, p being the place whose turn it is.
 unfoldable pub decide : List Played → ℕ → Cards → Entry → List Played
 decide hands p c e =
-    let h = getD hands p noHand in
-    cond (isStand e) (set hands p (ended h byStand))
+    let h = getD hands p missingHand in
+    cond (isStand e) (set hands p (finished h byStand))
     (cond (isDraw e) (set hands p (grown h (nextCard c 0)))
-    (cond (isDouble e) (set hands p (ended (grown h (nextCard c 0)) byDouble))
+    (cond (isDouble e) (set hands p (finished (grown h (nextCard c 0)) byDouble))
     (cond (isSplit e) (splitHands hands p c)
-    (cond (isSurrender e) (set hands 0 (ended (getD hands 0 noHand) bySurrender))
-    (cond (isEven e) (set hands p (ended h byEven))
-    (cond (isFive e) (set hands p (ended h byFive))
+    (cond (isSurrender e) (set hands 0 (finished (getD hands 0 missingHand) bySurrender))
+    (cond (isEven e) (set hands p (finished h byEven))
+    (cond (isFive e) (set hands p (finished h byFive))
     hands))))))
 
 -- What a call makes of a seat's hands. `before` and `staked` count staked seats, S is the seat's stake.

@@ -18,7 +18,7 @@ use Rattle.payment.specs.Prize.{prize}
 use Rattle.history.specs.Entry.{Entry, isOf, isFill, isCredit, isBuy, isCash, isStake, isInsure, isDraw, isDouble, isSplit, isClose, isVoid, isEnd, amountOf}
 use Rattle.history.specs.Rounds.{stakeIn, insuranceIn}
 use Rattle.history.specs.Cards.{Cards, cardsOfHistory, bankFinal}
-use Rattle.history.specs.Hands.{noHand, grown, nextCard, handsIn}
+use Rattle.history.specs.Hands.{missingHand, grown, nextCard, handsIn}
 
 -- Money that came and went with the house's and the cashier's calls, over all seats.
 abbrev pub cameIn : List Entry → ℕ
@@ -55,7 +55,7 @@ laidIn (e ∷ es) i = cond (isEnd e) 0 (lays i (stakeIn es i) e + laidIn es i)
 unfoldable pub wins : Options → Cards → ℕ → ℕ → List Played → Entry → ℕ
 wins o c i S hands e =
     cond (isOf i e && (isDraw e || isDouble e))
-    (prize o S (grown (getD hands (waitingPlace o (getD (c .bank) 0 0) hands) noHand) (nextCard c 0))) 0
+    (prize o S (grown (getD hands (waitingPlace o (getD (c .bank) 0 0) hands) missingHand) (nextCard c 0))) 0
 
 module _ (o : Options) (opening : List ℕ) where
   -- The prize of a call after these, all prizes of the seat, and those of the round not yet ended.
@@ -82,16 +82,16 @@ module _ (o : Options) (opening : List ℕ) where
   netsOf es i = handNets (closingScore es) (stakeIn es i) (handsIn o opening es i) +ℤ net (insurancePay (closingScore es) (insuranceIn es i))
 
   -- What a call adds that ends a round: for a closed round what the seat laid and its nets; for a voided round what it laid less its prizes.
-  abbrev pub endedBy : List Entry → ℕ → Entry → ℤ
-  endedBy es i e =
+  abbrev pub endBrings : List Entry → ℕ → Entry → ℤ
+  endBrings es i e =
       cond (isClose e) (pos (laidIn es i) +ℤ netsOf es i)
       (cond (isVoid e) (pos (laidIn es i) -ℤ pos (prizesIn es i))
       (pos 0))
 
-  abbrev pub ended : List Entry → ℕ → ℤ
-  ended [] i = pos 0
-  ended (e ∷ es) i = endedBy es i e +ℤ ended es i
+  abbrev pub endsBrought : List Entry → ℕ → ℤ
+  endsBrought [] i = pos 0
+  endsBrought (e ∷ es) i = endBrings es i e +ℤ endsBrought es i
 
   -- The seat's purse.
   abbrev pub purseOf : List Entry → ℕ → ℤ
-  purseOf es i = pos (bought es i) -ℤ pos (cashed es i) -ℤ pos (laidEver es i) +ℤ pos (prizesEver es i) +ℤ ended es i
+  purseOf es i = pos (bought es i) -ℤ pos (cashed es i) -ℤ pos (laidEver es i) +ℤ pos (prizesEver es i) +ℤ endsBrought es i

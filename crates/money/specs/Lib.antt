@@ -1,3 +1,3 @@
 -- The sums over all seats, and how much they can be.
 pub mod Sums
-pub mod Within
+pub mod SumsFit

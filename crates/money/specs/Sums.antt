@@ -6,7 +6,7 @@ use Rattle.options.specs.declared.Options.{Options}
 use Rattle.table.specs.declared.Seat.{Seat}
 use Rattle.table.specs.declared.Table.{Table}
 use Rattle.table.specs.Seat.{purse, laid, prizes, seatCover}
-use Rattle.table.specs.Money.{limit}
+use Rattle.table.specs.Money.{mostMoney}
 use Rattle.money.specs.declared.sums.Sums.{Sums}
 
 abbrev pub makeSums : ℕ → ℕ → ℕ → ℕ → Sums
@@ -14,7 +14,7 @@ makeSums laid prizes cover purses = record { laid = laid; prizes = prizes; cover
 
 -- A purse cut one past the limit: a sum of purses so cut is past the limit exactly if the sum of the purses is.
 abbrev pub capped : ℕ → ℕ
-capped purse = min purse (limit + 1)
+capped purse = min purse (mostMoney + 1)
 
 -- The sums over a list of seats, and of a table.
 abbrev pub sumsOver : Options → List Seat → Sums

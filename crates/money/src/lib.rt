@@ -1,5 +1,4 @@
 // money: seat_money, sums, limits, amounts.
-pub mod amounts;
-pub mod limits;
+pub mod most_money;
 pub mod seat_money;
 pub mod sums;

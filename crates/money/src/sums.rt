@@ -1,7 +1,7 @@
 // The money of all seats, summed in one pass. Every table is taken: a damaged purse is cut before it is added, so no sum wraps.
 ghost use mathlib.Core.Path.{_≡_};
 ghost use Rattle.money.specs.Sums.{capped, seatSums, plusSums, tableSums};
-ghost use Rattle.money.specs.Within.{Within};
+ghost use Rattle.money.specs.SumsFit.{SumsFit};
 use crate::seat_money::laid;
 use crate::seat_money::prizes;
 use options::Options;
@@ -10,7 +10,7 @@ use table::Seat;
 use table::Table;
 
 // All money on a table is at most 10^15.
-pub const LIMIT: u64 = 1000000000000000;
+pub const MOST_MONEY: u64 = 1000000000000000;
 
 // What the seats have laid, their prizes, what the tray must hold for them, and what is in their purses.
 pub struct Sums {
@@ -24,13 +24,13 @@ pub struct Sums {
 fn cut(purse: u64) -> u64
     ensures { λ r. ⌜ r ≡ capped purse ⌝ }
 {
-    if LIMIT < purse { LIMIT + 1 } else { purse }
+    if MOST_MONEY < purse { MOST_MONEY + 1 } else { purse }
 }
 
 // The sums of one seat.
 pub fn seat_sums(o: Options, s: Seat) -> Sums
     ensures same { λ r. ⌜ r ≡ seatSums o s ⌝ }
-    ensures small { λ r. ⌜ Within 1 r ⌝ }
+    ensures small { λ r. ⌜ SumsFit 1 r ⌝ }
 {
     let money = s.money;
     Sums {
@@ -43,8 +43,8 @@ pub fn seat_sums(o: Options, s: Seat) -> Sums
 
 // The sums of two groups of seats together. Public for passes over the nine seats alone: so it asks that both are sums of at most nine.
 pub fn plus(a: Sums, b: Sums) -> Sums
-    requires left { ⌜ Within 9 a ⌝ }
-    requires right { ⌜ Within 9 b ⌝ }
+    requires left { ⌜ SumsFit 9 a ⌝ }
+    requires right { ⌜ SumsFit 9 b ⌝ }
     ensures { λ r. ⌜ r ≡ plusSums a b ⌝ }
 {
     Sums {
@@ -57,9 +57,9 @@ pub fn plus(a: Sums, b: Sums) -> Sums
 
 // The sums with those of one seat more. Not by `plus`: `seat_sums` called at one place is put into the pass that tests every table.
 fn with_seat_sums(all: Sums, o: Options, s: Seat) -> Sums
-    requires { ⌜ Within 8 all ⌝ }
+    requires { ⌜ SumsFit 8 all ⌝ }
     ensures same { λ r. ⌜ r ≡ plusSums all (seatSums o s) ⌝ }
-    ensures small { λ _. ⌜ Within 1 (seatSums o s) ⌝ }
+    ensures small { λ _. ⌜ SumsFit 1 (seatSums o s) ⌝ }
 {
     let money = s.money;
     Sums {

@@ -12,8 +12,8 @@ use Rattle.lists.specs.Tests.{all}
 use Rattle.lists.proofs.Tests.{all-at}
 use Rattle.options.specs.declared.Options.{Options}
 use Rattle.options.specs.declared.Bounds.{Bounds}
-use Rattle.options.specs.Ranges.{range, within, leastCut, mostCut, ranges, isEven, inRange}
-use Rattle.options.specs.Facts.{InRange}
+use Rattle.options.specs.Ranges.{range, within, leastCut, mostCut, ranges, isEvenNumber, inRange}
+use Rattle.options.specs.Aids.Facts.{InRange}
 
 -- a value within its range, as two orders
 within-facts : (r : Bounds) → within r ≡ true → (r .least ≤ r .value) × (r .value ≤ r .most)
@@ -25,11 +25,11 @@ facts-within : {value least most : ℕ} → least ≤ value → value ≤ most �
 facts-within low high = simp (le-leb _ _ low, le-leb _ _ high)
 
 -- the three tests of `inRange`
-tests : (o : Options) → inRange o ≡ true → ((all within (ranges o) ≡ true) × (isEven (o .smallest) ≡ true)) × (isEven (o .largest) ≡ true)
+tests : (o : Options) → inRange o ≡ true → ((all within (ranges o) ≡ true) × (isEvenNumber (o .smallest) ≡ true)) × (isEvenNumber (o .largest) ≡ true)
 unfolding inRange
 tests o e =
-    let both = and-eq-true-iff (all within (ranges o) && isEven (o .smallest)) (isEven (o .largest)) .0 e in
-    (and-eq-true-iff (all within (ranges o)) (isEven (o .smallest)) .0 (both .0), both .1)
+    let both = and-eq-true-iff (all within (ranges o) && isEvenNumber (o .smallest)) (isEvenNumber (o .largest)) .0 e in
+    (and-eq-true-iff (all within (ranges o)) (isEvenNumber (o .smallest)) .0 (both .0), both .1)
 
 -- the value at each place of the list lies in its range
 range-at : (o : Options) → inRange o ≡ true → (k : ℕ) → k < 14 → let r = getD (ranges o) k (range 0 0 0) in (r .least ≤ r .value) × (r .value ≤ r .most)

@@ -42,12 +42,12 @@ ranges o =
     ∷ []
 
 -- A whole number of pairs: stakes are even.
-abbrev pub isEven : ℕ → Bool
-isEven n = eqb (n % 2) 0
+abbrev pub isEvenNumber : ℕ → Bool
+isEvenNumber n = eqb (n % 2) 0
 
 -- No option is outside its range (number 2), and both stakes are even.
 unfoldable pub inRange : Options → Bool
-inRange o = all within (ranges o) && isEven (o .smallest) && isEven (o .largest)
+inRange o = all within (ranges o) && isEvenNumber (o .smallest) && isEvenNumber (o .largest)
 
 -- No options: every value 0, which is outside the ranges. The empty table has these.
 abbrev pub noOptions : Options

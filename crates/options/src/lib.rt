@@ -1,4 +1,6 @@
 // House options, given at opening (document 01): the struct, its ranges and the test that decides them.
+pub mod permitted;
+
 ghost use mathlib.Core.Path.{_≡_};
 ghost use Rattle.lists.specs.Tests.{all};
 ghost use Rattle.options.specs.Ranges.{within as isWithin, range as rangeOf, leastCut, mostCut, ranges as rangesOf, inRange};

@@ -7,7 +7,7 @@ ghost use Rattle.rules.specs.SeatHand.{playedOf};
 ghost use Rattle.payment.specs.HandPay.{byTotals, againstNatural, againstBank, handPay};
 use crate::bank::Score;
 use crate::pay::Pay;
-use crate::stake::wager;
+use crate::wager::wager;
 use options::Options;
 use rules::seat_hand::BY_DOUBLE;
 use rules::seat_hand::BY_EVEN;

@@ -1,7 +1,8 @@
-// payment: bank, stakes, payment, cover, rehearsed.
+// How the bank stands and what a hand, an insurance and a prize pay (document 01, "Payment"), and the cover that the tray must hold for it.
 pub mod bank;
 pub mod cover;
 pub mod hand_pay;
 pub mod insurance;
 pub mod pay;
-pub mod stake;
+pub mod prize;
+pub mod wager;

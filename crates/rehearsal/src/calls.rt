@@ -3,7 +3,7 @@ ghost use Prim.Native.Nat.{_≤_};
 use crate::lines;
 use crate::stage::Stage;
 use crate::stage::lent;
-use answer::Stepped;
+use answer::Reply;
 use call::At;
 use call::Call;
 use engine::step;
@@ -36,7 +36,7 @@ fn call_of(letter: u8, at: At, amount: u64) -> Call {
 }
 
 // As many draws of a seat as the amount says, at most twenty; the answer of the last.
-fn drawn(t: Table, at: At, times: u64) -> Stepped {
+fn drawn(t: Table, at: At, times: u64) -> Reply {
     let mut s = step(t, Call::Draw(at), b"");
     for i in 1u64..20 {
         if i < times {
@@ -68,7 +68,7 @@ fn all_cashed(t: Table, seats: u8, amount: u64) -> Table {
 }
 
 // The shoe run down by one deal: stakes, the deal and a void. The answer is the deal's.
-fn run_down(t: Table, seats: u8, amount: u64) -> Stepped {
+fn run_down(t: Table, seats: u8, amount: u64) -> Reply {
     let mut dealt = step(all_staked(t, seats, amount), Call::Deal, b"");
     let voided = step(dealt.table, Call::Void, b"");
     dealt.table = all_cashed(voided.table, seats, amount);
@@ -76,18 +76,18 @@ fn run_down(t: Table, seats: u8, amount: u64) -> Stepped {
 }
 
 // A call with the first of these cards for its order.
-fn stepped(cards: [u8; 416], count: usize, t: Table, c: Call) -> Stepped {
+fn reply_to(cards: [u8; 416], count: usize, t: Table, c: Call) -> Reply {
     step(t, c, &cards[..lent(count)])
 }
 
 // What a row plays.
-fn played(t: Table, letter: u8, at: At, amount: u64, order: Order) -> Stepped {
+fn played(t: Table, letter: u8, at: At, amount: u64, order: Order) -> Reply {
     match letter {
         b'm' => drawn(t, at, amount),
         b'w' => run_down(t, at.seat, amount),
         _ => {
             let cards = order.cards;
-            stepped(cards, order.count, t, call_of(letter, at, amount))
+            reply_to(cards, order.count, t, call_of(letter, at, amount))
         }
     }
 }

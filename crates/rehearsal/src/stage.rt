@@ -3,7 +3,7 @@ ghost use Prim.Native.Nat.{_≤_};
 use cashier::opening::opening;
 use script::orders::Order;
 use script::orders::begun_order;
-use state::blank::no_options;
+use state::empty::no_options;
 use table::Table;
 
 pub struct Stage {

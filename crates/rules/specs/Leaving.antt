@@ -6,7 +6,7 @@ use Prim.Native.Nat.{ℕ}
 use Rattle.cards.specs.Card.{isAce}
 use Rattle.options.specs.declared.Options.{Options}
 use Rattle.rules.specs.SeatHand.{Played}
-use Rattle.rules.specs.Open.{evenOpen, fiveOpen}
+use Rattle.rules.specs.OpenCalls.{evenOpen, fiveOpen}
 use Rattle.rules.specs.Waits.{waits}
 
 -- even (article 10 n.º 3): a natural against an ace or ten-value.

@@ -1,6 +1,6 @@
 -- A hand in its seat: where it comes from, how it ended, and whether even and five are open to it.
 pub mod SeatHand
-pub mod Open
+pub mod OpenCalls
 -- Which hand waits.
 pub mod Waits
 -- Whose turn it is.

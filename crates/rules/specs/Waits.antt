@@ -9,7 +9,7 @@ use Rattle.cards.specs.Card.{isAce}
 use Rattle.cards.specs.Total.{total}
 use Rattle.options.specs.declared.Options.{Options}
 use Rattle.rules.specs.SeatHand.{Played, splitAces, notEnded}
-use Rattle.rules.specs.Open.{evenOpen, fiveOpen}
+use Rattle.rules.specs.OpenCalls.{evenOpen, fiveOpen}
 
 -- Two aces.
 unfoldable pub isTwoAces : List ℕ → Bool

@@ -6,7 +6,7 @@ ghost use Rattle.rules.specs.Leaving.{permitsEven, permitsFive, permitsS
 use crate::open_calls::even_open;
 use crate::open_calls::five_open;
 use crate::seat_hand::SeatHand;
-use crate::waiting::waits;
+use crate::waits::waits;
 use options::Options;
 
 pub fn permits_even(o: Options, up: u8, many: usize, h: SeatHand) -> bool

@@ -2,7 +2,7 @@
 pub mod drew;
 pub mod leaving;
 pub mod open_calls;
-pub mod permission;
+pub mod permits;
 pub mod seat_hand;
 pub mod turn;
-pub mod waiting;
+pub mod waits;

@@ -1,7 +1,7 @@
 // For which hands even and five are open.
 ghost use mathlib.Core.Path.{_≡_};
 ghost use Rattle.rules.specs.SeatHand.{playedOf};
-ghost use Rattle.rules.specs.Open.{evenOpen, fiveOpen};
+ghost use Rattle.rules.specs.OpenCalls.{evenOpen, fiveOpen};
 use crate::seat_hand::SeatHand;
 use crate::seat_hand::is_natural;
 use options::Options;

@@ -4,7 +4,7 @@ ghost use Rattle.rules.specs.SeatHand.{handsOf};
 ghost use Rattle.rules.specs.Turn.{seatWaits, waitingPlace};
 use crate::seat_hand::SeatHands;
 use crate::seat_hand::used;
-use crate::waiting::waits;
+use crate::waits::waits;
 use options::Options;
 
 // The place of the first waiting hand, or the number of the seat's hands where none waits.

@@ -6,7 +6,7 @@ use lib.ListN.{length, take, drop, replicate, length-replicate}
 use lib.Seq.{take-length}
 use Rattle.lists.proofs.Stores.{drop-replicate}
 use Rattle.table.specs.Shoe.{makeShoe, newShoe}
-use Rattle.shoe.specs.Empty.{noCards}
+use Rattle.shoe.specs.Aids.Empty.{noCards}
 
 pub no-cards-length : (empty : List ℕ) → empty ≡ noCards → length empty ≡ 416
 unfolding noCards

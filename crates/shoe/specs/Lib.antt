@@ -1,2 +1,3 @@
 -- The array of a shoe before any card is in it.
-pub mod Empty
+-- What only proofs and the contracts of private functions cite: nothing here has to be believed.
+pub mod Aids

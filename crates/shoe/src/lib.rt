@@ -5,8 +5,8 @@ pub mod gathering;
 ghost use mathlib.Core.Path.{_≡_};
 ghost use Prim.Native.Nat.{_+_, _≤_};
 ghost use lib.ListN.{length, getD};
-ghost use Rattle.table.specs.Shoe.{newShoe, drawn};
-ghost use Rattle.shoe.specs.Empty.{noCards};
+ghost use Rattle.table.specs.Shoe.{newShoe, withDrawn};
+ghost use Rattle.shoe.specs.Aids.Empty.{noCards};
 use table::Shoe;
 
 // The card n behind the next one of an order of which so much is drawn, or 0 past its end. The order is lent, so that a loop copies no shoe. Each
@@ -26,9 +26,9 @@ pub fn card_ahead(order: &[u8], drawn: usize, n: usize) -> u8
 }
 
 // So many cards are drawn. Public for the calls alone, which draw only cards that are left: so it asks that the order has them.
-pub fn draw_cards(sh: Shoe, n: usize) -> Shoe
+pub fn with_drawn(sh: Shoe, n: usize) -> Shoe
     requires { ⌜ sh .drawn + n ≤ 416 ⌝ }
-    ensures { λ r. ⌜ r ≡ drawn sh n ⌝ }
+    ensures { λ r. ⌜ r ≡ withDrawn sh n ⌝ }
 {
     let mut next = sh;
     next.drawn = sh.drawn + n;

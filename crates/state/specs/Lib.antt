@@ -1,4 +1,2 @@
 -- Whose turn it is at a table.
-pub mod Turns
--- The place whose turn it is at a table.
-pub mod Place
+pub mod Turn

@@ -1,7 +1,5 @@
-// state: round, seat_at, seats, blank, turns, turn_places.
-pub mod blank;
+// Parts of the table, read and replaced: the round, a seat, whose turn it is, and what holds nothing.
+pub mod empty;
 pub mod round;
-pub mod seat_at;
-pub mod seats;
-pub mod turn_places;
-pub mod turns;
+pub mod seat;
+pub mod turn;

@@ -7,12 +7,12 @@ use lib.ListN.{length}
 use Rattle.lists.specs.Sum.{sum}
 use Rattle.lists.proofs.Sums.{sum-at-most, sum-plus, sum-has}
 use Rattle.cards.specs.Card.{isAce}
-use Rattle.payment.proofs.stake.Bounds.{seat-prizes}
+use Rattle.payment.proofs.Bounds.{seat-prizes}
 use Rattle.table.specs.declared.Table.{Table}
-use Rattle.table.specs.Seat.{noSeat, stake, hands, prizes, seatCover}
+use Rattle.table.specs.Seat.{missingSeat, stake, hands, prizes, seatCover}
 use Rattle.table.specs.Table.{seatAt, isDealt, up}
 use Rattle.table.specs.Money.{allCover}
-use Rattle.table.specs.Sound.{Sound}
+use Rattle.table.specs.Aids.Sound.{Sound}
 use Rattle.table.proofs.Facts.{sound-options, few-hands}
 
 module _ (t : Table) (full : length (t .seats) ≡ 9) (sound : Sound t) where
@@ -23,7 +23,7 @@ module _ (t : Table) (full : length (t .seats) ≡ 9) (sound : Sound t) where
   room : sum (λ s. prizes (t .options) s + 8 * stake s) (t .seats) ≤ allCover t
   unfolding prizes
   room =
-      sum-at-most (λ s. prizes (t .options) s + 8 * stake s) seatCover (t .seats) noSeat
+      sum-at-most (λ s. prizes (t .options) s + 8 * stake s) seatCover (t .seats) missingSeat
       (λ i h. omega (arith, seat-prizes (t .options) (stake (seatAt t i)) (hands (seatAt t i)) (few i (omega arith))))
 
   pub tray-covers : isDealt t ≡ true → (j : ℕ) → j < 9 → 8 * stake (seatAt t j) ≤ t .tray
@@ -33,5 +33,5 @@ module _ (t : Table) (full : length (t .seats) ≡ 9) (sound : Sound t) where
         room,
         sound .cover dealt,
         sum-plus (prizes (t .options)) (λ s. 8 * stake s) (t .seats),
-        sum-has (λ s. 8 * stake s) (t .seats) j noSeat (omega arith),
+        sum-has (λ s. 8 * stake s) (t .seats) j missingSeat (omega arith),
       )

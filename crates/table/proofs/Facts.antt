@@ -19,19 +19,20 @@ use Rattle.cards.specs.Hand.{cardsOf}
 use Rattle.cards.specs.Length.{couldBePlayed}
 use Rattle.options.specs.declared.Options.{Options}
 use Rattle.options.specs.Ranges.{inRange}
-use Rattle.options.specs.Facts.{InRange}
+use Rattle.options.specs.Aids.Facts.{InRange}
 use Rattle.options.proofs.Facts.{in-range-facts}
 use Rattle.rules.specs.declared.seat_hand.SeatHand.{SeatHand}
 use Rattle.rules.proofs.seat_hand.Places.{many-hands}
 use Rattle.table.specs.declared.Seat.{Seat}
 use Rattle.table.specs.declared.Table.{Table}
-use Rattle.table.specs.Seat.{noPlace, purse, stake, insurance, isStaked, hands, laid, prizes}
+use Rattle.table.specs.Seat.{missingPlace, purse, stake, insurance, isStaked, hands, laid, prizes}
 use Rattle.table.specs.Shoe.{validOrder}
 use Rattle.table.specs.Table.{seatAt, isDealt, up, someStaked, tableOrder, tableDrawn, tableDiscards, handCards, bankCards, tableShoe, cardsLeft}
-use Rattle.table.specs.Money.{limit, allMoney, allPrizes, allCover}
+use Rattle.table.specs.Money.{mostMoney, allMoney, allPrizes, allCover}
 use Rattle.table.specs.Faces.{outCards}
-use Rattle.table.specs.Broken.{broken, sound, soundShoe, soundFaces, soundBank, soundMoney, seatSound, soundSeat, soundNumber, soundStake, soundInsurance, soundHands, soundPrizes, soundHand, insurancePermitted}
-use Rattle.table.specs.Sound.{Sound, SoundSeat, SoundHand, Insured, Playing, Nothing}
+use Rattle.options.specs.Permitted.{insurancePermitted}
+use Rattle.table.specs.Broken.{broken, sound, soundShoe, soundFaces, soundBank, soundMoney, seatSound, soundSeat, soundNumber, soundStake, soundInsurance, soundHands, soundPrizes, soundHand}
+use Rattle.table.specs.Aids.Sound.{Sound, SoundSeat, SoundHand, Insured, Playing, HoldsNothing}
 
 -- A hand.
 hand-facts : (h : SeatHand) → soundHand h ≡ true → SoundHand h
@@ -53,7 +54,7 @@ unfolding soundHand
 facts-hand h f = simp (le-leb _ _ (f .two-cards), le-leb _ _ (f .twenty-cards), f .played, le-leb _ _ (f .origin), le-leb _ _ (f .ended))
 
 -- A seat beyond the option.
-number-facts : (o : Options) (i : ℕ) (s : Seat) → soundNumber o i s ≡ true → o .seats ≤ i → Nothing s
+number-facts : (o : Options) (i : ℕ) (s : Seat) → soundNumber o i s ≡ true → o .seats ≤ i → HoldsNothing s
 unfolding soundNumber
 number-facts o i s e beyond =
     let tests = eqb (purse s) 0 ∷ eqb (stake s) 0 ∷ eqb (insurance s) 0 ∷ eqb (s .hands .many) 0 ∷ [] in
@@ -65,10 +66,10 @@ number-facts o i s e beyond =
       no-hands = eqb-true _ _ (test 3);
     }
 
-nothing-test : (s : Seat) → Nothing s → eqb (purse s) 0 && eqb (stake s) 0 && eqb (insurance s) 0 && eqb (s .hands .many) 0 ≡ true
+nothing-test : (s : Seat) → HoldsNothing s → eqb (purse s) 0 && eqb (stake s) 0 && eqb (insurance s) 0 && eqb (s .hands .many) 0 ≡ true
 nothing-test s f = simp (f .no-purse, f .no-stake, f .no-insurance, f .no-hands)
 
-facts-number : (o : Options) (i : ℕ) (s : Seat) → (o .seats ≤ i → Nothing s) → soundNumber o i s ≡ true
+facts-number : (o : Options) (i : ℕ) (s : Seat) → (o .seats ≤ i → HoldsNothing s) → soundNumber o i s ≡ true
 unfolding soundNumber
 facts-number o i s f = or-unless (ltb i (o .seats)) _ (λ beyond. nothing-test s (f (ltb-false _ _ beyond)))
 
@@ -104,12 +105,12 @@ playing-facts o dealt s e some =
       in-round = test 2;
       staked = ltb-true _ _ (test 3);
       within = leb-true _ _ (test 1);
-      each = λ p h l. hand-facts _ (rw getD-take at (all-at soundHand (take n (s .hands .places)) p noPlace (test 4) (omega (arith, length-take n (s .hands .places)))));
+      each = λ p h l. hand-facts _ (rw getD-take at (all-at soundHand (take n (s .hands .places)) p missingPlace (test 4) (omega (arith, length-take n (s .hands .places)))));
     }
 
-each-test : (s : Seat) → ((p : ℕ) → p < s .hands .many → p < length (s .hands .places) → SoundHand (getD (s .hands .places) p noPlace)) → all soundHand (take (s .hands .many) (s .hands .places)) ≡ true
+each-test : (s : Seat) → ((p : ℕ) → p < s .hands .many → p < length (s .hands .places) → SoundHand (getD (s .hands .places) p missingPlace)) → all soundHand (take (s .hands .many) (s .hands .places)) ≡ true
 each-test s f =
-    at-all soundHand (take (s .hands .many) (s .hands .places)) noPlace (λ p h.
+    at-all soundHand (take (s .hands .many) (s .hands .places)) missingPlace (λ p h.
     let used : p < s .hands .many = omega (arith, length-take (s .hands .many) (s .hands .places)) in
     rw getD-take (facts-hand _ (f p used (omega (arith, length-take (s .hands .many) (s .hands .places))))))
 
@@ -181,7 +182,7 @@ sound-facts t e =
     let test = and-at tests e in
     let shoe = and-at (validOrder (t .options .decks) (tableOrder t) ∷ leb (t .shoe .drawn) (52 * t .options .decks) ∷ leb (t .shoe .discarded) 416 ∷ []) (test 1) in
     let faces = and-at (allBelow (λ b. eqb (count b (outCards t)) (count b (tableDrawn t))) 256 ∷ eqb (length (outCards t)) (t .shoe .drawn) ∷ []) (test 2) in
-    let money = and-at (leb (allMoney t) limit ∷ (not (isDealt t) || leb (allCover t) (t .tray + allPrizes t)) ∷ []) (test 5) in
+    let money = and-at (leb (allMoney t) mostMoney ∷ (not (isDealt t) || leb (allCover t) (t .tray + allPrizes t)) ∷ []) (test 5) in
     record {
       options = test 0;
       valid = shoe 0;

@@ -10,7 +10,7 @@ use Rattle.options.proofs.Facts.{in-range-facts}
 use Rattle.table.specs.declared.Table.{Table}
 use Rattle.table.specs.Table.{tableOrder, tableShoe}
 use Rattle.table.specs.Shape.{Shaped}
-use Rattle.table.specs.Sound.{Sound}
+use Rattle.table.specs.Aids.Sound.{Sound}
 
 -- a card of the loaded order
 pub card-at : (t : Table) (i : ℕ) → i < 52 * t .options .decks → getD (tableOrder t) i 0 ≡ getD (t .shoe .order) i 0

@@ -19,19 +19,19 @@ use Rattle.rules.specs.declared.seat_hand.SeatHand.{SeatHand}
 use Rattle.table.specs.declared.Seat.{Seat}
 use Rattle.table.specs.declared.Shoe.{Shoe}
 use Rattle.table.specs.declared.Table.{Table}
-use Rattle.table.specs.Seat.{money, makeSeat, noHands, noSeat, emptyPlace, noPlace, purse, laid, prizes, seatCards}
+use Rattle.table.specs.Seat.{money, makeSeat, emptyHands, missingSeat, emptyPlace, missingPlace, purse, laid, prizes, seatCards}
 use Rattle.table.specs.Shoe.{discardsOf}
 use Rattle.table.specs.Table.{makeTable, seatAt, isDealt, up, handCards, bankCards, tableDrawn, tableShoe, tableDiscards}
 use Rattle.table.specs.Money.{allMoney}
 use Rattle.table.specs.Faces.{outCards}
 use Rattle.table.specs.Shape.{Shaped, ShapedSeat}
-use Rattle.table.specs.Sound.{Sound, SoundSeat, Nothing}
+use Rattle.table.specs.Aids.Sound.{Sound, SoundSeat, HoldsNothing}
 use Rattle.table.proofs.Facts.{decks-416, room-discards}
 use Rattle.table.proofs.SeatChange.{sum-out}
 
 -- a seat at the end of the round, with its new purse
 abbrev pub cleared : (Seat → ℕ) → Seat → Seat
-cleared purse-of s = makeSeat (money (purse-of s) 0 0) noHands
+cleared purse-of s = makeSeat (money (purse-of s) 0 0) emptyHands
 
 -- the table after it
 abbrev pub roundEnded : Table → ℕ → (Seat → ℕ) → Shoe → Table
@@ -40,7 +40,7 @@ roundEnded t tray purse-of shoe = makeTable (t .options) tray (map (cleared purs
 -- k cards more are drawn; with those that lay in hands and with the bank they are `cards`, which become discards
 pub record RoundEnd (t : Table) (tray : ℕ) (purse-of : Seat → ℕ) (shoe : Shoe) (k : ℕ) (cards : List ℕ) : Type 0 where
   pub paid : tray + sum purse-of (t .seats) ≡ allMoney t
-  pub nothing-stays : (s : Seat) → Nothing s → purse-of s ≡ 0
+  pub nothing-stays : (s : Seat) → HoldsNothing s → purse-of s ≡ 0
   pub same-order : shoe .order ≡ t .shoe .order
   pub more-drawn : shoe .drawn ≡ t .shoe .drawn + k
   pub enough : t .shoe .drawn + k ≤ 52 * t .options .decks
@@ -62,11 +62,11 @@ unfolding sum flat
 cleared-cards w purse-of s = refl
 
 -- the seat of a number that the table has
-pub cleared-at : (purse-of : Seat → ℕ) (seats : List Seat) (i : ℕ) → i < length seats → getD (map (cleared purse-of) seats) i noSeat ≡ cleared purse-of (getD seats i noSeat)
-cleared-at purse-of seats i h = getD-any (map (cleared purse-of) seats) i noSeat (cleared purse-of noSeat) (omega (arith, length-map seats (cleared purse-of))) ∙ List·getD-map (cleared purse-of) seats i noSeat
+pub cleared-at : (purse-of : Seat → ℕ) (seats : List Seat) (i : ℕ) → i < length seats → getD (map (cleared purse-of) seats) i missingSeat ≡ cleared purse-of (getD seats i missingSeat)
+cleared-at purse-of seats i h = getD-any (map (cleared purse-of) seats) i missingSeat (cleared purse-of missingSeat) (omega (arith, length-map seats (cleared purse-of))) ∙ List·getD-map (cleared purse-of) seats i missingSeat
 
 cleared-shaped : (purse-of : Seat → ℕ) (s : Seat) → ShapedSeat (cleared purse-of s)
-cleared-shaped purse-of s = record { four-places = refl; twenty-cards = λ p h. ap (λ (x : SeatHand). length (x .hand .cards)) (getD-replicate 4 p emptyPlace noPlace h) }
+cleared-shaped purse-of s = record { four-places = refl; twenty-cards = λ p h. ap (λ (x : SeatHand). length (x .hand .cards)) (getD-replicate 4 p emptyPlace missingPlace h) }
 
 module _ (t : Table) (tray : ℕ) (purse-of : Seat → ℕ) (shoe : Shoe) (k : ℕ) (cards : List ℕ) (shaped : Shaped t) (sound : Sound t) (end : RoundEnd t tray purse-of shoe k cards) where
   abbrev after : Table
@@ -93,7 +93,7 @@ module _ (t : Table) (tray : ℕ) (purse-of : Seat → ℕ) (shoe : Shoe) (k : �
 
   -- a number that each such seat has 0 of comes to 0
   over-none : (f : Seat → ℕ) → ((s : Seat) → f (cleared purse-of s) ≡ 0) → sum f (map (cleared purse-of) (t .seats)) ≡ 0
-  over-none f h = sum-map f (cleared purse-of) (t .seats) ∙ sum-none (λ s. f (cleared purse-of s)) (t .seats) noSeat (λ i l. h (seatAt t i))
+  over-none f h = sum-map f (cleared purse-of) (t .seats) ∙ sum-none (λ s. f (cleared purse-of s)) (t .seats) missingSeat (λ i l. h (seatAt t i))
 
   pub end-money : allMoney after ≡ allMoney t
   end-money = omega (arith, over-none laid (cleared-laid purse-of), sum-map purse (cleared purse-of) (t .seats), end .paid)

@@ -15,13 +15,13 @@ use Rattle.options.proofs.Facts.{in-range-facts}
 use Rattle.table.specs.declared.Seat.{Seat}
 use Rattle.table.specs.declared.Shoe.{Shoe}
 use Rattle.table.specs.declared.Table.{Table}
-use Rattle.table.specs.Seat.{noSeat, purse, stake, isStaked, laid, prizes, seatCards, seatCover}
+use Rattle.table.specs.Seat.{missingSeat, purse, stake, isStaked, laid, prizes, seatCards, seatCover}
 use Rattle.table.specs.Shoe.{discardsOf}
 use Rattle.table.specs.Table.{makeTable, seatAt, isDealt, up, bankCards, tableDrawn, tableShoe, tableDiscards}
-use Rattle.table.specs.Money.{limit, allMoney}
+use Rattle.table.specs.Money.{mostMoney, allMoney}
 use Rattle.table.specs.Faces.{outCards}
 use Rattle.table.specs.Shape.{Shaped, ShapedSeat}
-use Rattle.table.specs.Sound.{Sound, SoundSeat}
+use Rattle.table.specs.Aids.Sound.{Sound, SoundSeat}
 
 -- whatever is summed over the cards that are out: the seats' parts, the bank's and the discards'
 pub sum-out : (t : Table) (w : ℕ → ℕ) → sum w (outCards t) ≡ sum (λ x. sum w (seatCards x)) (t .seats) + sum w (bankCards t) + sum w (tableDiscards t)
@@ -38,7 +38,7 @@ pub record SeatChange (t : Table) (j tray : ℕ) (s : Seat) (shoe : Shoe) (k cam
   pub sound-seat : SoundSeat (t .options) (isDealt t) (isAce (up t)) j s
   pub same-stake : isDealt t ≡ true → stake s ≡ stake (seatAt t j)
   pub paid : tray + laid s + purse s + went ≡ t .tray + laid (seatAt t j) + purse (seatAt t j) + came
-  pub in-limit : allMoney t + came ≤ limit + went
+  pub in-limit : allMoney t + came ≤ mostMoney + went
   pub prizes-paid : isDealt t ≡ true → tray + prizes (t .options) s ≡ t .tray + prizes (t .options) (seatAt t j)
   pub same-order : shoe .order ≡ t .shoe .order
   pub same-discards : shoe .discards ≡ t .shoe .discards
@@ -54,12 +54,12 @@ module _ (t : Table) (j tray : ℕ) (s : Seat) (shoe : Shoe) (k came went : ℕ)
 
   -- a sum over the seats changes by the seat's part
   over-seats : (f : Seat → ℕ) → sum f (set (t .seats) j s) + f (seatAt t j) ≡ sum f (t .seats) + f s
-  over-seats f = sum-set f (t .seats) j s noSeat here
+  over-seats f = sum-set f (t .seats) j s missingSeat here
 
   pub change-shaped : Shaped (changed t j tray s shoe)
   change-shaped = record {
     nine-seats = length-set (t .seats) j s ∙ shaped .nine-seats;
-    seats = λ i h. holds-set (λ n x. ShapedSeat x) (t .seats) j i s noSeat here (ch .shaped-seat) (shaped .seats i h);
+    seats = λ i h. holds-set (λ n x. ShapedSeat x) (t .seats) j i s missingSeat here (ch .shaped-seat) (shaped .seats i h);
     bank = shaped .bank;
     order = ap length (ch .same-order) ∙ shaped .order;
     discards = ap length (ch .same-discards) ∙ shaped .discards;
@@ -89,9 +89,9 @@ module _ (t : Table) (j tray : ℕ) (s : Seat) (shoe : Shoe) (k came went : ℕ)
     discarded = omega arith;
     faces = λ b h. omega (arith, out-cards (isIt b), drawn-cards (isIt b), sound .faces b h);
     number = omega (arith, out-cards (λ x. 1), all-drawn, sum-ones (outCards (changed t j tray s shoe)), sum-ones (outCards t), sum-ones (take k (tableShoe t)));
-    seats = λ i h. holds-set (SoundSeat (t .options) (isDealt t) (isAce (up t))) (t .seats) j i s noSeat here (ch .sound-seat) (sound .seats i h);
+    seats = λ i h. holds-set (SoundSeat (t .options) (isDealt t) (isAce (up t))) (t .seats) j i s missingSeat here (ch .sound-seat) (sound .seats i h);
     bank = sound .bank;
-    round = λ dealt. any-set isStaked (t .seats) j s noSeat (ap (ltb 0) (ch .same-stake dealt)) ∙ sound .round dealt;
+    round = λ dealt. any-set isStaked (t .seats) j s missingSeat (ap (ltb 0) (ch .same-stake dealt)) ∙ sound .round dealt;
     money = omega (arith, change-money);
     cover = λ dealt. omega (arith, over-seats seatCover, over-seats (prizes (t .options)), ch .same-stake dealt, ch .prizes-paid dealt, sound .cover dealt);
   }

@@ -17,9 +17,9 @@ use Rattle.rules.proofs.seat_hand.Places.{many-hands, hand-at}
 use Rattle.payment.specs.Wager.{wager}
 use Rattle.table.specs.declared.Money.{Money}
 use Rattle.table.specs.declared.Seat.{Seat}
-use Rattle.table.specs.Seat.{makeSeat, noPlace, stake, insurance, hands, seatCards, laid}
+use Rattle.table.specs.Seat.{makeSeat, missingPlace, stake, insurance, hands, seatCards, laid}
 use Rattle.table.specs.Shape.{ShapedSeat}
-use Rattle.table.specs.Sound.{SoundHand}
+use Rattle.table.specs.Aids.Sound.{SoundHand}
 
 -- the sums of a seat over its hands, once it has one
 pub laid-playing : (s : Seat) → ShapedSeat s → 0 < s .hands .many → laid s ≡ sum (wager (stake s)) (hands s) + insurance s
@@ -40,8 +40,8 @@ module _ (s : Seat) (p : ℕ) (shaped : ShapedSeat s) (few : s .hands .many ≤ 
   pub how-many : length (hands s) ≡ s .hands .many
   how-many = omega (arith, many-hands (s .hands) (shaped .four-places))
 
-  pub hand-is : getD (hands s) p (playedOf noPlace) ≡ playedOf (getD (s .hands .places) p noPlace)
-  hand-is = hand-at (s .hands) p noPlace here
+  pub hand-is : getD (hands s) p (playedOf missingPlace) ≡ playedOf (getD (s .hands .places) p missingPlace)
+  hand-is = hand-at (s .hands) p missingPlace here
 
   module _ (m : Money) (h : SeatHand) where
     pub hands-with : hands (with-hand s m p h) ≡ set (hands s) p (playedOf h)
@@ -51,16 +51,16 @@ module _ (s : Seat) (p : ℕ) (shaped : ShapedSeat s) (few : s .hands .many ≤ 
     shaped-with full =
         record {
           four-places = length-set (s .hands .places) p h ∙ shaped .four-places;
-          twenty-cards = λ q l. holds-set (λ n x. length (x .hand .cards) ≡ 20) (s .hands .places) p q h noPlace (omega (arith, shaped .four-places)) full (shaped .twenty-cards q l);
+          twenty-cards = λ q l. holds-set (λ n x. length (x .hand .cards) ≡ 20) (s .hands .places) p q h missingPlace (omega (arith, shaped .four-places)) full (shaped .twenty-cards q l);
         }
 
-    pub each-with : ((q : ℕ) → q < s .hands .many → q < length (s .hands .places) → SoundHand (getD (s .hands .places) q noPlace)) → SoundHand h
-        → (q : ℕ) → q < s .hands .many → q < length (set (s .hands .places) p h) → SoundHand (getD (set (s .hands .places) p h) q noPlace)
+    pub each-with : ((q : ℕ) → q < s .hands .many → q < length (s .hands .places) → SoundHand (getD (s .hands .places) q missingPlace)) → SoundHand h
+        → (q : ℕ) → q < s .hands .many → q < length (set (s .hands .places) p h) → SoundHand (getD (set (s .hands .places) p h) q missingPlace)
     each-with each new q l _ =
-        holds-set (λ n x. SoundHand x) (s .hands .places) p q h noPlace (omega (arith, shaped .four-places)) new (each q l (omega (arith, shaped .four-places)))
+        holds-set (λ n x. SoundHand x) (s .hands .places) p q h missingPlace (omega (arith, shaped .four-places)) new (each q l (omega (arith, shaped .four-places)))
 
-    pub sum-with : (f : Played → ℕ) → sum f (hands (with-hand s m p h)) + f (playedOf (getD (s .hands .places) p noPlace)) ≡ sum f (hands s) + f (playedOf h)
-    sum-with f = rw (hands-with, ← hand-is) (sum-set f (hands s) p (playedOf h) (playedOf noPlace) (omega (arith, how-many)))
+    pub sum-with : (f : Played → ℕ) → sum f (hands (with-hand s m p h)) + f (playedOf (getD (s .hands .places) p missingPlace)) ≡ sum f (hands s) + f (playedOf h)
+    sum-with f = rw (hands-with, ← hand-is) (sum-set f (hands s) p (playedOf h) (playedOf missingPlace) (omega (arith, how-many)))
 
   module _ (m : Money) (a b : SeatHand) where
     pub hands-two : s .hands .many < 4 → hands (with-two s m p a b) ≡ two-for (hands s) p (playedOf a) (playedOf b)
@@ -74,15 +74,15 @@ module _ (s : Seat) (p : ℕ) (shaped : ShapedSeat s) (few : s .hands .many ≤ 
         record {
           four-places = length-take-le 4 (two-for (s .hands .places) p a b) (omega (arith, length-two-for (s .hands .places) p a b (omega (arith, shaped .four-places)), shaped .four-places));
           twenty-cards = λ q l.
-              rw (getD-take 4 (two-for (s .hands .places) p a b) q noPlace l)
-              (holds-two-for (λ x. length (x .hand .cards) ≡ 20) (s .hands .places) p 4 a b noPlace (omega (arith, shaped .four-places)) (omega arith) full-a full-b (shaped .twenty-cards) q (omega arith));
+              rw (getD-take 4 (two-for (s .hands .places) p a b) q missingPlace l)
+              (holds-two-for (λ x. length (x .hand .cards) ≡ 20) (s .hands .places) p 4 a b missingPlace (omega (arith, shaped .four-places)) (omega arith) full-a full-b (shaped .twenty-cards) q (omega arith));
         }
 
-    pub each-two : s .hands .many < 4 → ((q : ℕ) → q < s .hands .many → q < length (s .hands .places) → SoundHand (getD (s .hands .places) q noPlace)) → SoundHand a → SoundHand b
-        → (q : ℕ) → q < s .hands .many + 1 → q < length (take 4 (two-for (s .hands .places) p a b)) → SoundHand (getD (take 4 (two-for (s .hands .places) p a b)) q noPlace)
+    pub each-two : s .hands .many < 4 → ((q : ℕ) → q < s .hands .many → q < length (s .hands .places) → SoundHand (getD (s .hands .places) q missingPlace)) → SoundHand a → SoundHand b
+        → (q : ℕ) → q < s .hands .many + 1 → q < length (take 4 (two-for (s .hands .places) p a b)) → SoundHand (getD (take 4 (two-for (s .hands .places) p a b)) q missingPlace)
     each-two room each new-a new-b q l _ =
-        rw (getD-take 4 (two-for (s .hands .places) p a b) q noPlace (omega arith))
-        (holds-two-for SoundHand (s .hands .places) p (s .hands .many) a b noPlace (omega (arith, shaped .four-places)) here new-a new-b (λ k m. each k m (omega (arith, shaped .four-places))) q (omega arith))
+        rw (getD-take 4 (two-for (s .hands .places) p a b) q missingPlace (omega arith))
+        (holds-two-for SoundHand (s .hands .places) p (s .hands .many) a b missingPlace (omega (arith, shaped .four-places)) here new-a new-b (λ k m. each k m (omega (arith, shaped .four-places))) q (omega arith))
 
-    pub sum-two : s .hands .many < 4 → (f : Played → ℕ) → sum f (hands (with-two s m p a b)) + f (playedOf (getD (s .hands .places) p noPlace)) ≡ sum f (hands s) + f (playedOf a) + f (playedOf b)
-    sum-two room f = rw (hands-two room, ← hand-is) (sum-two-for f (hands s) p (playedOf a) (playedOf b) (playedOf noPlace) (omega (arith, how-many)))
+    pub sum-two : s .hands .many < 4 → (f : Played → ℕ) → sum f (hands (with-two s m p a b)) + f (playedOf (getD (s .hands .places) p missingPlace)) ≡ sum f (hands s) + f (playedOf a) + f (playedOf b)
+    sum-two room f = rw (hands-two room, ← hand-is) (sum-two-for f (hands s) p (playedOf a) (playedOf b) (playedOf missingPlace) (omega (arith, how-many)))

@@ -1,5 +1,5 @@
 -- Number 1: broken table. docs/BROKEN.md says it in words. A table is broken unless it is sound, and each part of sound is one test.
-use mathlib.Core.Bool.{Bool, cond, not, _&&_, _||_}
+use mathlib.Core.Bool.{Bool, not, _&&_, _||_}
 use Prim.Native.Nat.{ℕ, _+_, _*_}
 use lib.Dec.{ltb, leb, eqb}
 use lib.ListN.{length, take}
@@ -10,23 +10,16 @@ use Rattle.cards.specs.Card.{isAce}
 use Rattle.cards.specs.Hand.{cardsOf}
 use Rattle.cards.specs.Length.{couldBePlayed}
 use Rattle.options.specs.declared.Options.{Options}
-use Rattle.options.specs.Ranges.{inRange, isEven}
+use Rattle.options.specs.Ranges.{inRange}
+use Rattle.options.specs.Permitted.{stakePermitted, insurancePermitted}
 use Rattle.rules.specs.declared.seat_hand.SeatHand.{SeatHand}
 use Rattle.table.specs.declared.Seat.{Seat}
 use Rattle.table.specs.declared.Table.{Table}
 use Rattle.table.specs.Seat.{purse, stake, insurance, isStaked, laid, prizes}
 use Rattle.table.specs.Shoe.{validOrder}
 use Rattle.table.specs.Table.{seatAt, isDealt, up, someStaked, tableOrder, tableDrawn}
-use Rattle.table.specs.Money.{limit, allMoney, allPrizes, allCover}
+use Rattle.table.specs.Money.{mostMoney, allMoney, allPrizes, allCover}
 use Rattle.table.specs.Faces.{outCards}
-
--- A stake that the options permit: within them, and even.
-unfoldable pub stakePermitted : Options → ℕ → Bool
-stakePermitted o S = leb (o .smallest) S && leb S (o .largest) && isEven S
-
--- An insurance that the options permit: 1 exactly half the stake, 2 half to whole.
-unfoldable pub insurancePermitted : Options → ℕ → ℕ → Bool
-insurancePermitted o S I = cond (eqb (o .insurance) 1) (eqb (2 * I) S) (leb S (2 * I) && leb I S)
 
 -- A hand in use: 2 to 20 cards that could have been played, codes in range.
 unfoldable pub soundHand : SeatHand → Bool
@@ -75,7 +68,7 @@ soundBank t = eqb (t .bank .count) 0 || (eqb (t .bank .count) 1 && someStaked t)
 
 -- All money is within 10^15; in a dealt round the tray with the prizes paid covers every stake.
 unfoldable pub soundMoney : Table → Bool
-soundMoney t = leb (allMoney t) limit && (not (isDealt t) || leb (allCover t) (t .tray + allPrizes t))
+soundMoney t = leb (allMoney t) mostMoney && (not (isDealt t) || leb (allCover t) (t .tray + allPrizes t))
 
 unfoldable pub sound : Table → Bool
 sound t =

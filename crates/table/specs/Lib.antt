@@ -6,4 +6,5 @@ pub mod Money
 pub mod Faces
 pub mod Broken
 pub mod Shape
-pub mod Sound
+-- What only proofs and the contracts of private functions cite: nothing here has to be believed.
+pub mod Aids

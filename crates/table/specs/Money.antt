@@ -7,8 +7,8 @@ use Rattle.table.specs.declared.Table.{Table}
 use Rattle.table.specs.Seat.{purse, laid, prizes, seatCover}
 
 -- All money on the table is at most 10^15.
-abbrev pub limit : ℕ
-limit = 1000000000000000
+abbrev pub mostMoney : ℕ
+mostMoney = 1000000000000000
 
 -- What lies on the layout, and what is in the purses.
 abbrev pub layout : Table → ℕ
@@ -21,8 +21,8 @@ abbrev pub allMoney : Table → ℕ
 allMoney t = t .tray + layout t + purses t
 
 -- 14: money past 10^15, once so much more is on the table.
-abbrev pub pastLimit : Table → ℕ → Bool
-pastLimit t n = ltb limit (allMoney t + n)
+abbrev pub pastMostMoney : Table → ℕ → Bool
+pastMostMoney t n = ltb mostMoney (allMoney t + n)
 
 -- The prizes paid in this round, and what the tray must hold at the deal: 20 × all stakes.
 abbrev pub allPrizes : Table → ℕ

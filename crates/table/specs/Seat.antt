@@ -28,19 +28,19 @@ makeSeat m hands = record { money = m; hands = hands }
 abbrev pub emptyPlace : SeatHand
 emptyPlace = record { hand = emptyHand; origin = dealt; ended = notEnded }
 
-abbrev pub noHands : SeatHands
-noHands = record { places = replicate 4 emptyPlace; many = 0 }
+abbrev pub emptyHands : SeatHands
+emptyHands = record { places = replicate 4 emptyPlace; many = 0 }
 
 -- A seat with no money and no hand.
 abbrev pub emptySeat : Seat
-emptySeat = makeSeat (money 0 0 0) noHands
+emptySeat = makeSeat (money 0 0 0) emptyHands
 
 -- What stands where a seat has no such place, or the table no such seat.
-abbrev pub noPlace : SeatHand
-noPlace = record { hand = record { cards = []; count = 0 }; origin = dealt; ended = notEnded }
+abbrev pub missingPlace : SeatHand
+missingPlace = record { hand = record { cards = []; count = 0 }; origin = dealt; ended = notEnded }
 
-abbrev pub noSeat : Seat
-noSeat = makeSeat (money 0 0 0) (record { places = []; many = 0 })
+abbrev pub missingSeat : Seat
+missingSeat = makeSeat (money 0 0 0) (record { places = []; many = 0 })
 
 -- The seat's purse, its stake S and its insurance; 0 where there is none.
 abbrev pub purse : Seat → ℕ

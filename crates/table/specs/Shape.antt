@@ -4,12 +4,12 @@ use Prim.Native.Nat.{ℕ, _<_}
 use lib.ListN.{length, getD}
 use Rattle.table.specs.declared.Seat.{Seat}
 use Rattle.table.specs.declared.Table.{Table}
-use Rattle.table.specs.Seat.{noPlace}
+use Rattle.table.specs.Seat.{missingPlace}
 use Rattle.table.specs.Table.{seatAt}
 
 pub record ShapedSeat (s : Seat) : Type 0 where
   pub four-places : length (s .hands .places) ≡ 4
-  pub twenty-cards : (p : ℕ) → p < 4 → length (getD (s .hands .places) p noPlace .hand .cards) ≡ 20
+  pub twenty-cards : (p : ℕ) → p < 4 → length (getD (s .hands .places) p missingPlace .hand .cards) ≡ 20
 
 pub record Shaped (t : Table) : Type 0 where
   pub nine-seats : length (t .seats) ≡ 9

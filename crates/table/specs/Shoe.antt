@@ -46,8 +46,8 @@ abbrev pub isFresh : Shoe → Bool
 isFresh sh = eqb (sh .drawn) 0
 
 -- So many cards are drawn and go elsewhere.
-abbrev pub drawn : Shoe → ℕ → Shoe
-drawn sh n = makeShoe (sh .order) (sh .drawn + n) (sh .discards) (sh .discarded)
+abbrev pub withDrawn : Shoe → ℕ → Shoe
+withDrawn sh n = makeShoe (sh .order) (sh .drawn + n) (sh .discards) (sh .discarded)
 
 -- Cards become discards, behind the others in their order.
 abbrev pub discard : Shoe → List ℕ → Shoe

@@ -13,7 +13,7 @@ use Rattle.rules.specs.SeatHand.{Played}
 use Rattle.table.specs.declared.Seat.{Seat}
 use Rattle.table.specs.declared.Shoe.{Shoe}
 use Rattle.table.specs.declared.Table.{Table}
-use Rattle.table.specs.Seat.{noSeat, isStaked, hands, seatCards}
+use Rattle.table.specs.Seat.{missingSeat, isStaked, hands, seatCards}
 use Rattle.table.specs.Shoe as Shoes
 
 abbrev pub makeTable : Options → ℕ → List Seat → Hand → Shoe → Table
@@ -34,7 +34,7 @@ withShoe t shoe = makeTable (t .options) (t .tray) (t .seats) (t .bank) shoe
 
 -- The seat of that number; a seat that the table does not have holds nothing.
 abbrev pub seatAt : Table → ℕ → Seat
-seatAt t i = getD (t .seats) i noSeat
+seatAt t i = getD (t .seats) i missingSeat
 
 -- The hands of each seat, by seat and place.
 abbrev pub seatsHands : Table → List (List Played)

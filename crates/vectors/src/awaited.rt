@@ -8,7 +8,7 @@ use rules::seat_hand::SeatHand;
 use rules::seat_hand::SeatHands;
 use rules::turn::seat_waits;
 use rules::turn::waiting_place;
-use rules::waiting::waits;
+use rules::waits::waits;
 
 pub fn of_hand(rule: u8, words: &[u8], o: Options, up: u8, many: usize, h: SeatHand) {
     if rule == b'w' {

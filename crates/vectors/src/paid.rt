@@ -6,7 +6,7 @@ use payment::bank::Score;
 use payment::cover::cover;
 use payment::hand_pay::hand_pay;
 use payment::insurance::insurance_pay;
-use payment::stake::prize;
+use payment::prize::prize;
 use rules::seat_hand::SeatHand;
 
 pub fn of_hand(rule: u8, words: &[u8], o: Options, bank: Score, h: SeatHand) {

@@ -3,10 +3,10 @@ use options::Options;
 use rules::leaving::permits_even;
 use rules::leaving::permits_five;
 use rules::leaving::permits_surrender;
-use rules::permission::permits_double;
-use rules::permission::permits_draw;
-use rules::permission::permits_split;
-use rules::permission::permits_stand;
+use rules::permits::permits_double;
+use rules::permits::permits_draw;
+use rules::permits::permits_split;
+use rules::permits::permits_stand;
 use rules::seat_hand::SeatHand;
 
 pub fn permits(rule: u8, o: Options, up: u8, many: usize, h: SeatHand) -> bool {

@@ -26,7 +26,7 @@ fn place_of(row: &[u8], k: usize) -> SeatHand
     seat_hand(&row[from..from + 7], row[9], row[11 + k])
 }
 
-fn seat_of(row: &[u8], many: u8) -> SeatHands
+fn seat_at(row: &[u8], many: u8) -> SeatHands
     requires { do ⌜ 44 ≤ (← ⟦row.len()⟧) ⌝ }
 {
     SeatHands {
@@ -77,7 +77,7 @@ fn example(row: &[u8])
     let up = card(row[4], row[5]);
     let many = digit(row[7]);
     of_hand(rule, row, o, up, many as usize);
-    awaited::of_seat(rule, &row[44..], o, up, seat_of(row, many));
+    awaited::of_seat(rule, &row[44..], o, up, seat_at(row, many));
     of_bank(rule, row, o);
 }
 

@@ -29,8 +29,8 @@ opened-requires-2 c κs = search needs
 order-of-requires-2 : tie.Need-order-of-requires-2 Inv-loop μ-loop
 order-of-requires-2 c κs = search needs
 
-stepped-requires : tie.Need-stepped-requires Inv-loop μ-loop
-stepped-requires c κs = search needs
+reply-to-requires : tie.Need-reply-to-requires Inv-loop μ-loop
+reply-to-requires c κs = search needs
 
 of-step-requires : tie.Need-of-step-requires Inv-loop μ-loop
 of-step-requires c κs = search needs
@@ -62,7 +62,7 @@ played-spec =
     loop-holds
     opened-requires-2
     order-of-requires-2
-    stepped-requires
+    reply-to-requires
     of-step-requires
     after-requires
     add-n

@@ -15,22 +15,22 @@ use Rattle.cards.specs.Card.{isAce}
 use Rattle.options.specs.declared.Options.{Options}
 use Rattle.table.specs.declared.Seat.{Seat}
 use Rattle.table.specs.declared.Table.{Table}
-use Rattle.table.specs.Seat.{noSeat}
+use Rattle.table.specs.Seat.{missingSeat}
 use Rattle.table.specs.Table.{isDealt, up}
 use Rattle.table.specs.Broken.{soundSeat, seatSound}
 use Rattle.money.specs.Sums.{sumsOver}
-use Rattle.money.specs.Within.{Within}
+use Rattle.money.specs.SumsFit.{SumsFit}
 use Rattle.money.proofs.sums.Pass.{next-seat, within-more}
 use Rattle.broken.proofs.surveyed.Statement.{statement}
 use Rattle.broken.proofs.surveyed.Tie as tie
 
 -- the test of a seat, with what is worked out before the loop
 abbrev passes : Options → Bool → Bool → List Seat → ℕ → Bool
-passes o dealt ace seats i = soundSeat o dealt ace i (getD seats i noSeat)
+passes o dealt ace seats i = soundSeat o dealt ace i (getD seats i missingSeat)
 
 abbrev Inv-loop : tie.InvT-loop
 Inv-loop o dealt ace sums₀ seats i₀ sums i =
-    (i ≤ 9) × (allBelow (passes o dealt ace seats) i ≡ true) × (sums ≡ sumsOver o (take i seats)) × Within i sums
+    (i ≤ 9) × (allBelow (passes o dealt ace seats) i ≡ true) × (sums ≡ sumsOver o (take i seats)) × SumsFit i sums
 
 abbrev μ-loop : tie.MeasureT-loop
 μ-loop o dealt ace sums₀ seats i₀ sums i = 9 - i

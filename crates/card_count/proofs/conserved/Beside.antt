@@ -14,10 +14,10 @@ use Rattle.lists.specs.Below.{allBelow}
 use Rattle.lists.proofs.Sums.{sum-append}
 use Rattle.lists.proofs.Below.{all-below, below-all}
 use Rattle.lists.proofs.Parts.{part-of-take}
-use Rattle.card_count.specs.Tally.{noCounts, tally, Room}
+use Rattle.card_count.specs.Aids.Counters.{noCounts, countedAll, Room}
 use Rattle.card_count.proofs.counters.Tallies.{tally-append, room-after, room-zeros}
 use Rattle.table.specs.Shoe.{validOrder}
-use Rattle.card_count.proofs.faces.Orders.{faces-valid, faces-decide, valid-count}
+use Rattle.card_count.proofs.valid_order.Orders.{faces-valid, faces-decide, valid-count}
 
 -- two tests are one where each passes with the other
 both-ways : (a b : Bool) → (a ≡ true → b ≡ true) → (b ≡ true → a ≡ true) → a ≡ b
@@ -30,7 +30,7 @@ pub left-part : (n k : ℕ) (xs : List ℕ) → n ≤ k → take (k - n) (drop n
 left-part n k xs h = sym (part-of-take (k - n) n k xs (omega arith)) ∙ take-all (k - n) (drop n (take k xs)) (omega (arith, length-drop n (take k xs), length-take k xs))
 
 -- counters of at most 416 cards have room for all cards of a table
-pub room-left : (of xs : List ℕ) (n : ℕ) → of ≡ tally noCounts xs → length xs ≤ 416 → n ≤ 1156 → Room of n
+pub room-left : (of xs : List ℕ) (n : ℕ) → of ≡ countedAll noCounts xs → length xs ≤ 416 → n ≤ 1156 → Room of n
 room-left of xs n e few h = rw e (room-after noCounts xs 65535 n (room-zeros 65535 (omega arith)) (omega arith))
 
 -- a list taken apart and put together the other way round
@@ -39,12 +39,12 @@ count-swapped b n xs =
     let apart : count b (take n xs ++ drop n xs) ≡ count b xs = ap (count b) (take-append-drop n xs) in
     omega (arith, apart, sum-append (isIt b) (take n xs) (drop n xs), sum-append (isIt b) (drop n xs) (take n xs))
 
-module _ (decks n : ℕ) (order left : List ℕ) (full : length order ≡ 52 * decks) (counters : left ≡ tally noCounts (drop n order)) where
-  beside : (cards of : List ℕ) → of ≡ tally left cards → of ≡ tally noCounts (drop n order ++ cards)
-  beside cards of e = e ∙ ap (λ (l : List ℕ). tally l cards) counters ∙ sym (tally-append noCounts (drop n order) cards)
+module _ (decks n : ℕ) (order left : List ℕ) (full : length order ≡ 52 * decks) (counters : left ≡ countedAll noCounts (drop n order)) where
+  beside : (cards of : List ℕ) → of ≡ countedAll left cards → of ≡ countedAll noCounts (drop n order ++ cards)
+  beside cards of e = e ∙ ap (λ (l : List ℕ). countedAll l cards) counters ∙ sym (tally-append noCounts (drop n order) cards)
 
   -- the drawn cards beside those that are left
-  pub drawn-decide : (of : List ℕ) → of ≡ tally left (take n order) → allBelow (λ face. eqb (getD of face 0) decks) 52 ≡ validOrder decks order
+  pub drawn-decide : (of : List ℕ) → of ≡ countedAll left (take n order) → allBelow (λ face. eqb (getD of face 0) decks) 52 ≡ validOrder decks order
   drawn-decide of e = faces-decide decks order (drop n order ++ take n order) of full (beside (take n order) of e) (λ b. count-swapped b n order)
 
   -- as many cards that are out beside those that are left
@@ -73,7 +73,7 @@ module _ (decks n : ℕ) (order left : List ℕ) (full : length order ≡ 52 * d
             let valued : count face order ≡ decks = valid-count decks order valid face ∙ rw (lt-ltb face 52 h) in
             omega (arith, apart face)
 
-    pub out-decide : (of : List ℕ) → of ≡ tally left out
+    pub out-decide : (of : List ℕ) → of ≡ countedAll left out
         → allBelow (λ face. eqb (getD of face 0) decks) 52 ≡ allBelow (λ b. eqb (count b out) (count b (take n order))) 256
     out-decide of e =
         faces-decide decks (drop n order ++ out) (drop n order ++ out) of again (beside out of e) (λ b. refl)

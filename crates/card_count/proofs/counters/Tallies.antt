@@ -12,27 +12,27 @@ use lib.Seq.{take-suc, getD-set-same, getD-set-other, lt-length-set}
 use Rattle.lists.specs.Sum.{sum, count, isIt}
 use Rattle.lists.proofs.Sums.{sum-most}
 use Rattle.lists.proofs.Picks.{cond-most}
-use Rattle.card_count.specs.Tally.{noCounts, counted, tally, Room}
+use Rattle.card_count.specs.Aids.Counters.{noCounts, counted, countedAll, Room}
 
-pub tally-append : (of xs ys : List ℕ) → tally of (xs ++ ys) ≡ tally (tally of xs) ys
-unfolding tally
+pub tally-append : (of xs ys : List ℕ) → countedAll of (xs ++ ys) ≡ countedAll (countedAll of xs) ys
+unfolding countedAll
 tally-append of [] ys = refl
 tally-append of (x ∷ xs) ys = tally-append (counted of x) xs ys
 
-tally-one : (of : List ℕ) (x : ℕ) → tally of (x ∷ []) ≡ counted of x
-unfolding tally
+tally-one : (of : List ℕ) (x : ℕ) → countedAll of (x ∷ []) ≡ counted of x
+unfolding countedAll
 tally-one of x = refl
 
 -- the first i + 1 cards: the first i, and the one at i
-pub tally-next : (of xs : List ℕ) (i : ℕ) → i < length xs → counted (tally of (take i xs)) (getD xs i 0) ≡ tally of (take (i + 1) xs)
+pub tally-next : (of xs : List ℕ) (i : ℕ) → i < length xs → counted (countedAll of (take i xs)) (getD xs i 0) ≡ countedAll of (take (i + 1) xs)
 tally-next of xs i h =
-    sym (ap (λ (n : ℕ). tally of (take n xs)) (add-one i)
-    ∙ ap (tally of) (take-suc xs i 0 h)
+    sym (ap (λ (n : ℕ). countedAll of (take n xs)) (add-one i)
+    ∙ ap (countedAll of) (take-suc xs i 0 h)
     ∙ tally-append of (take i xs) (getD xs i 0 ∷ [])
-    ∙ tally-one (tally of (take i xs)) (getD xs i 0))
+    ∙ tally-one (countedAll of (take i xs)) (getD xs i 0))
 
-length-tally : (of xs : List ℕ) → length (tally of xs) ≡ length of
-unfolding tally
+length-tally : (of xs : List ℕ) → length (countedAll of xs) ≡ length of
+unfolding countedAll
 length-tally of [] = refl
 length-tally of (x ∷ xs) = length-tally (counted of x) xs ∙ length-set of x (getD of x 0 + 1)
 
@@ -44,24 +44,24 @@ counted-at of x b h = go (ℕ-discrete b x)
     go (no n) = rw (getD-set-other of x b (getD of x 0 + 1) 0 n, ne-eqb x b (λ e. n (sym e))) (omega arith)
 
 -- a counter comes to what it was and how often its number stands there
-tally-at : (of xs : List ℕ) (b : ℕ) → b < length of → getD (tally of xs) b 0 ≡ getD of b 0 + count b xs
-unfolding tally sum
+tally-at : (of xs : List ℕ) (b : ℕ) → b < length of → getD (countedAll of xs) b 0 ≡ getD of b 0 + count b xs
+unfolding countedAll sum
 tally-at of [] b h = omega arith
 tally-at of (x ∷ xs) b h = omega (arith, tally-at (counted of x) xs b (lt-length-set of x (getD of x 0 + 1) h), counted-at of x b h)
 
 -- and to at most one more for each card
-tally-most : (of xs : List ℕ) (b : ℕ) → getD (tally of xs) b 0 ≤ getD of b 0 + length xs
+tally-most : (of xs : List ℕ) (b : ℕ) → getD (countedAll of xs) b 0 ≤ getD of b 0 + length xs
 tally-most of xs b = go (decLe (length of) b)
   where
     few : count b xs ≤ 1 * length xs
     few = sum-most (isIt b) 1 (λ x. cond-most (eqb x b) (omega arith) (omega arith)) xs
 
-    go : Dec (length of ≤ b) → getD (tally of xs) b 0 ≤ getD of b 0 + length xs
-    go (yes past) = omega (arith, List·getD-eq-default (tally of xs) 0 {n = b} (rw length-tally past))
+    go : Dec (length of ≤ b) → getD (countedAll of xs) b 0 ≤ getD of b 0 + length xs
+    go (yes past) = omega (arith, List·getD-eq-default (countedAll of xs) 0 {n = b} (rw length-tally past))
     go (no inside) = omega (arith, tally-at of xs b (omega arith), few)
 
 -- what some cards leave of the room
-pub room-after : (of xs : List ℕ) (n m : ℕ) → Room of n → length xs + m ≤ n → Room (tally of xs) m
+pub room-after : (of xs : List ℕ) (n m : ℕ) → Room of n → length xs + m ≤ n → Room (countedAll of xs) m
 room-after of xs n m room h =
     record { each-byte = length-tally of xs ∙ room .each-byte; fits = λ b. omega (arith, tally-most of xs b, room .fits b) }
 
@@ -77,5 +77,5 @@ pub room-zeros : (n : ℕ) → n ≤ 65535 → Room noCounts n
 unfolding noCounts
 room-zeros n h = record { each-byte = length-replicate {A = ℕ} 256 0; fits = λ b. omega (arith, zeros 256 b) }
 
-pub tally-zeros : (xs : List ℕ) (b : ℕ) → b < 256 → getD (tally noCounts xs) b 0 ≡ count b xs
+pub tally-zeros : (xs : List ℕ) (b : ℕ) → b < 256 → getD (countedAll noCounts xs) b 0 ≡ count b xs
 tally-zeros xs b h = omega (arith, tally-at noCounts xs b (rw (room-zeros 0 (omega arith) .each-byte) h), room-zeros 65535 (omega arith) .fits b)

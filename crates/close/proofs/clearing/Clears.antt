@@ -14,7 +14,7 @@ use Rattle.table.proofs.Facts.{room-discards, decks-416}
 use Rattle.shoe.proofs.discards.Discards.{discard-more, room-more}
 use Rattle.close_spec.specs.BankDraw.{bankBurn, burntAtClose, bankAtClose, closeTakes}
 use Rattle.close_spec.proofs.Taken.{one-bank, takes-all, enough}
-use Rattle.close.specs.Closes.{Closes}
+use Rattle.close.specs.Aids.Closes.{Closes}
 
 module _ (t : Table) (bank : Hand) (closes : Closes t bank) where
   -- all of the bank's cards but the up card are taken now, and the shoe has them

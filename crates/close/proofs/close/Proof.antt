@@ -2,7 +2,7 @@
 use native.Mathlib.Omega.{arith}
 use borrow.Author.Needs.{needs}
 use Rattle.table.proofs.Facts.{decks-416}
-use Rattle.answer.specs.Stepped.{stepOf}
+use Rattle.answer.specs.Reply.{viewOf}
 use Rattle.answer.proofs.Laws.{refused-step, accepted-step}
 use Rattle.close_spec.specs.Close.{closeConditions, closeEffect, closeShown}
 use Rattle.close.proofs.Numbers.{early-refused, last-refused, all-accepted, closes}
@@ -12,15 +12,15 @@ use Rattle.close.proofs.close.Tie as tie
 early-number-requires : tie.Need-early-number-requires
 early-number-requires c κs = search needs
 
-plain-step-requires : tie.Need-plain-step-requires
-plain-step-requires c κs = search needs
+plain-reply-requires : tie.Need-plain-reply-requires
+plain-reply-requires c κs = search needs
 
 returns : tie.Need-returns
 returns c =
     let early = c .before .before in
     let t = early .before .args .t in
     let n = early .early-number .result in
-    refused-step (closeConditions t) (closeShown t) (closeEffect t) t n (c .plain-step .result) (c .plain-step .ensures)
+    refused-step (closeConditions t) (closeShown t) (closeEffect t) t n (c .plain-reply .result) (c .plain-reply .ensures)
     (early-refused t n (early .early-number .ensures .0) (c .before .if1 .taken)) (c .before .if1 .taken)
 
 bank-at-close-requires : tie.Need-bank-at-close-requires
@@ -31,8 +31,8 @@ bank-at-close-requires c κs =
 must-draw-requires : tie.Need-must-draw-requires
 must-draw-requires c κs = search needs
 
-plain-step-requires-2 : tie.Need-plain-step-requires-2
-plain-step-requires-2 c κs = search needs
+plain-reply-requires-2 : tie.Need-plain-reply-requires-2
+plain-reply-requires-2 c κs = search needs
 
 returns-2 : tie.Need-returns-2
 returns-2 c =
@@ -41,7 +41,7 @@ returns-2 c =
     let past = drawn .before in
     let early = past .before in
     let t = early .before .args .t in
-    refused-step (closeConditions t) (closeShown t) (closeEffect t) t 18 (c .plain-step2 .result) (c .plain-step2 .ensures)
+    refused-step (closeConditions t) (closeShown t) (closeEffect t) t 18 (c .plain-reply2 .result) (c .plain-reply2 .ensures)
     (last-refused t (early .early-number .result) (early .early-number .ensures .0) (past .if1 .left) (drawn .bank-at-close .result) (drawn .bank-at-close .ensures) (asked .must-draw .result) (asked .must-draw .ensures) (c .before .if2 .taken))
     (λ none. absurd (omega arith))
 
@@ -61,7 +61,7 @@ returns-3 c =
     let past = drawn .before in
     let early = past .before in
     let t = early .before .args .t in
-    accepted-step (closeConditions t) (closeShown t) (closeEffect t) t (stepOf (c .settled .result)) (c .settled .ensures)
+    accepted-step (closeConditions t) (closeShown t) (closeEffect t) t (viewOf (c .settled .result)) (c .settled .ensures)
     (all-accepted t (early .early-number .result) (early .early-number .ensures .0) (past .if1 .left) (drawn .bank-at-close .result) (drawn .bank-at-close .ensures) (asked .must-draw .result) (asked .must-draw .ensures) (c .before .if2 .left))
 
 pub close-spec : {M : Type 1} → statement M
@@ -69,11 +69,11 @@ close-spec =
     tie.close
     (tie.spec
     early-number-requires
-    plain-step-requires
+    plain-reply-requires
     returns
     bank-at-close-requires
     must-draw-requires
-    plain-step-requires-2
+    plain-reply-requires-2
     returns-2
     settled-requires
     returns-3)

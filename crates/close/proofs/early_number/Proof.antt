@@ -6,7 +6,7 @@ use borrow.Author.Needs.{needs}
 use borrow.Author.Tests.{lt-ltb, le-ltb, not-true, not-false}
 use Rattle.call.specs.Refusal.{first}
 use Rattle.table.proofs.Facts.{unbroken}
-use Rattle.state.proofs.turns.Hands.{waits-below}
+use Rattle.state.proofs.turn.Hands.{waits-below}
 use Rattle.close_spec.specs.Close.{closeConditions}
 use Rattle.close.proofs.early_number.Statement.{statement}
 use Rattle.close.proofs.early_number.Tie as tie
@@ -32,8 +32,8 @@ returns-2 c =
       λ none. absurd (omega arith),
     )
 
-turn-seat-requires : tie.Need-turn-seat-requires
-turn-seat-requires c κs = search needs
+seat-in-turn-requires : tie.Need-seat-in-turn-requires
+seat-in-turn-requires c κs = search needs
 
 returns-3 : tie.Need-returns-3
 unfolding closeConditions first
@@ -45,7 +45,7 @@ returns-3 c =
       simp (
         sym (whole .before .broken .ensures) ∙ whole .if1 .left,
         sym (dealt .before .is-dealt .ensures) ∙ not-false _ (dealt .if2 .left),
-        waits-below t full _ (c .before .turn-seat .ensures) ∙ lt-ltb _ _ (c .if3 .taken),
+        waits-below t full _ (c .before .seat-in-turn .ensures) ∙ lt-ltb _ _ (c .if3 .taken),
       ),
       λ none. absurd (omega arith),
     )
@@ -61,7 +61,7 @@ returns-4 c =
       simp (
         unharmed,
         sym (dealt .before .is-dealt .ensures) ∙ not-false _ (dealt .if2 .left),
-        waits-below t full _ (c .before .turn-seat .ensures) ∙ le-ltb _ _ (c .if3 .left),
+        waits-below t full _ (c .before .seat-in-turn .ensures) ∙ le-ltb _ _ (c .if3 .left),
       ),
       λ none. unbroken t unharmed,
     )
@@ -74,6 +74,6 @@ early-number-spec =
     returns
     is-dealt-requires
     returns-2
-    turn-seat-requires
+    seat-in-turn-requires
     returns-3
     returns-4)

@@ -16,7 +16,7 @@ use Rattle.payment.specs.declared.pay.Pay.{Pay}
 use Rattle.payment.specs.Pay.{net}
 use Rattle.payment.specs.HandPay.{handPay}
 use Rattle.payment.specs.Insurance.{insurancePay}
-use Rattle.payment.proofs.stake.Bounds.{wager-bounds}
+use Rattle.payment.proofs.Bounds.{wager-bounds}
 use Rattle.payment.proofs.cover.Bounds.{gain-most}
 
 abbrev pub Small : Pay → Type 0

@@ -8,16 +8,16 @@ use Rattle.lists.proofs.Sums.{sum-has}
 use Rattle.options.specs.declared.Options.{Options}
 use Rattle.payment.specs.declared.bank.Score.{Score}
 use Rattle.rules.specs.SeatHand.{Played}
-use Rattle.payment.proofs.stake.Bounds.{wager-bounds}
+use Rattle.payment.proofs.Bounds.{wager-bounds}
 use Rattle.payment.specs.declared.pay.Pay.{Pay}
 use Rattle.payment.specs.HandPay.{handPay}
 use Rattle.payment.specs.Insurance.{insurancePay}
 use Rattle.payment.proofs.cover.Bounds.{gain-most}
 use Rattle.table.specs.declared.Table.{Table}
-use Rattle.table.specs.Seat.{noSeat, purse}
+use Rattle.table.specs.Seat.{missingSeat, purse}
 use Rattle.table.specs.Table.{seatAt}
-use Rattle.table.specs.Money.{limit}
-use Rattle.table.specs.Sound.{Sound}
+use Rattle.table.specs.Money.{mostMoney}
+use Rattle.table.specs.Aids.Sound.{Sound}
 
 -- the wager, at most twice the stake, and a gain of at most that
 pub hand-most : (o : Options) (bank : Score) (S : ℕ) (h : Played) → handPay o bank S h .back ≤ 4 * S
@@ -27,5 +27,5 @@ pub insurance-most : (bank : Score) (I : ℕ) (p : Pay) → p ≡ insurancePay b
 unfolding insurancePay
 insurance-most bank I p e = rw e (cond-most (bank .natural) (omega arith) (omega arith))
 
-pub purse-most : (t : Table) → Sound t → length (t .seats) ≡ 9 → (i : ℕ) → i < 9 → purse (seatAt t i) ≤ limit
-purse-most t sound nine i h = omega (arith, sum-has purse (t .seats) i noSeat (omega arith), sound .money)
+pub purse-most : (t : Table) → Sound t → length (t .seats) ≡ 9 → (i : ℕ) → i < 9 → purse (seatAt t i) ≤ mostMoney
+purse-most t sound nine i h = omega (arith, sum-has purse (t .seats) i missingSeat (omega arith), sound .money)

@@ -6,7 +6,7 @@ use lib.ListN.{length, length-map}
 use Rattle.cards.specs.declared.hand.Hand.{Hand}
 use Rattle.cards.specs.Hand.{withCard}
 use Rattle.table.specs.declared.Shoe.{Shoe}
-use Rattle.table.specs.Shoe.{drawn}
+use Rattle.table.specs.Shoe.{withDrawn}
 use Rattle.deal.proofs.Room.{deal-room}
 use Rattle.deal.proofs.Effect.{effect}
 use Rattle.deal.proofs.dealt.Statement.{statement}
@@ -56,8 +56,8 @@ burn-requires c κs =
 deal-takes-requires : tie.Need-deal-takes-requires
 deal-takes-requires c κs = search needs
 
-draw-cards-requires : tie.Need-draw-cards-requires
-draw-cards-requires c κs =
+with-drawn-requires : tie.Need-with-drawn-requires
+with-drawn-requires c κs =
     let start = c .before .before .before .before .before .before .before .before .before .before .before .before .before in
     let full : length (start .args .t .shoe .discards) ≡ 416 = simp length-map at (start .good .0 .1 .1 .1 .1 .1 .1 .0 .1 .1 .1 .1 .0 .1 .0 .1) in
     let room = deal-room (start .args .t) full (start .pre) in
@@ -70,7 +70,7 @@ returns c =
     effect t (c .before .before .before .before .before .before .before .before .before .before .burn-at-deal .ensures .0) (c .before .before .before .before .before .before .before .before .before .staked-seats .ensures .0) (c .before .before .before .before .before .before .before .card-ahead .ensures)
     (c .before .before .before .before .before .before .pass .ensures) (c .before .before .before .before .before .pass2 .ensures)
     (c .before .before .before .with-card .ensures ∙ ap (λ (h : Hand). withCard h (c .before .before .before .before .before .before .before .card-ahead .result)) (c .before .before .before .before .empty-hand .ensures))
-    (c .draw-cards .ensures ∙ ap₂ drawn (c .before .before .burn .ensures) (c .before .deal-takes .ensures))
+    (c .with-drawn .ensures ∙ ap₂ withDrawn (c .before .before .burn .ensures) (c .before .deal-takes .ensures))
 
 pub dealt-spec : {M : Type 1} → statement M
 dealt-spec =
@@ -89,5 +89,5 @@ dealt-spec =
     with-card-requires
     burn-requires
     deal-takes-requires
-    draw-cards-requires
+    with-drawn-requires
     returns)

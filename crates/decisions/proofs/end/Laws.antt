@@ -11,8 +11,8 @@ use Rattle.table.specs.declared.Table.{Table}
 use Rattle.table.specs.Table.{seatAt, up}
 use Rattle.decision_spec.specs.Turn.{turnConditions}
 use Rattle.decisions.specs.Aids.InTurn.{InTurn}
-use Rattle.decisions.proofs.in_turn.InTurn.{in-turn, behind-turn}
-use Rattle.decisions.specs.Leave.{mayLeave, leaveConditions}
+use Rattle.decisions.proofs.turn.InTurn.{in-turn, behind-turn}
+use Rattle.decisions.specs.Aids.Leave.{mayLeave, leaveConditions}
 
 module _ (code : ℕ) (t : Table) (j : ℕ) where
   -- the same seat and up card, as the code has read them

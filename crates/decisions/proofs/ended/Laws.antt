@@ -10,7 +10,7 @@ use Rattle.table.specs.declared.Table.{Table}
 use Rattle.table.specs.Table.{seatAt, up}
 use Rattle.answer.specs.declared.outcome.Outcome.{Outcome}
 use Rattle.answer.specs.Outcome.{makeOutcome, outcome}
-use Rattle.decisions.specs.Ended.{endedSeat}
+use Rattle.decisions.specs.Aids.Ended.{endedSeat}
 
 pub answered : (conditions : List Condition) (effect t : Table) (n : ℕ) (r : Outcome) → n ≡ first conditions → r ≡ makeOutcome n (cond (eqb n 0) effect t)
     → r ≡ outcome conditions effect t

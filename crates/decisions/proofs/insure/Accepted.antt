@@ -10,7 +10,7 @@ use Rattle.call.proofs.Refusals.{accepted-at}
 use Rattle.table.specs.declared.Table.{Table}
 use Rattle.table.specs.Seat.{purse, stake}
 use Rattle.table.specs.Table.{seatAt}
-use Rattle.table.specs.Broken.{insurancePermitted}
+use Rattle.options.specs.Permitted.{insurancePermitted}
 use Rattle.table.proofs.Facts.{seat-of-nine, insurance-most}
 use Rattle.decision_spec.specs.Round.{roundConditions}
 use Rattle.decision_spec.specs.Insure.{insureConditions}

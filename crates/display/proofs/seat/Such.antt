@@ -6,7 +6,7 @@ use borrow.Author.Tests.{le-leb, lt-leb}
 use Rattle.table.specs.declared.Table.{Table}
 use Rattle.table.specs.Broken.{broken}
 use Rattle.table.proofs.Facts.{seat-of-nine}
-use Rattle.display.specs.SeatDisplayShown.{noSuch}
+use Rattle.display.specs.Seat.{noSuch}
 
 module _ (t : Table) (i : ℕ) where
   pub none-if-broken : broken t ≡ true → noSuch t i ≡ true

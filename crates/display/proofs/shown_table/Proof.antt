@@ -6,7 +6,7 @@ use Rattle.table.specs.Money.{layout, purses}
 use Rattle.table.proofs.Facts.{unbroken}
 use Rattle.money.specs.declared.sums.Sums.{Sums}
 use Rattle.money.proofs.sums.Capping.{within-capped}
-use Rattle.display.specs.DisplayShown.{tableShown}
+use Rattle.display.specs.Table.{tableShown}
 use Rattle.display.proofs.shown_table.Statement.{statement}
 use Rattle.display.proofs.shown_table.Tie as tie
 

@@ -3,8 +3,8 @@ use mathlib.Core.Path.{_≡_, sym, _∙_}
 use lib.ListN.{length, length-map}
 use borrow.Author.Needs.{needs}
 use borrow.Author.Tests.{lt-ltb, le-ltb}
-use Rattle.state.proofs.turns.Hands.{waits-below}
-use Rattle.display.specs.DisplayShown.{turnShown}
+use Rattle.state.proofs.turn.Hands.{waits-below}
+use Rattle.display.specs.Table.{turnShown}
 use Rattle.display.proofs.shown_turn.Statement.{statement}
 use Rattle.display.proofs.shown_turn.Tie as tie
 
@@ -18,8 +18,8 @@ returns : tie.Need-returns
 unfolding turnShown
 returns c = rw (sym (c .before .before .broken .ensures) ∙ c .before .if1 .taken) (c .nobody .ensures)
 
-turn-seat-requires : tie.Need-turn-seat-requires
-turn-seat-requires c κs = search needs
+seat-in-turn-requires : tie.Need-seat-in-turn-requires
+seat-in-turn-requires c κs = search needs
 
 nobody-requires-2 : tie.Need-nobody-requires-2
 nobody-requires-2 c κs = search needs
@@ -32,12 +32,12 @@ returns-2 c =
     let full : length (start .args .t .seats) ≡ 9 = simp length-map at (start .good .0 .1 .1 .1 .1 .0 .1 .0 .1) in
     rw (
       sym (seat .before .before .broken .ensures) ∙ seat .before .if1 .left,
-      waits-below (start .args .t) full _ (seat .turn-seat .ensures) ∙ le-ltb _ _ (c .before .if2 .taken),
+      waits-below (start .args .t) full _ (seat .seat-in-turn .ensures) ∙ le-ltb _ _ (c .before .if2 .taken),
     )
     (c .nobody2 .ensures)
 
-turn-place-requires : tie.Need-turn-place-requires
-turn-place-requires c κs = search needs
+place-in-turn-requires : tie.Need-place-in-turn-requires
+place-in-turn-requires c κs = search needs
 
 returns-3 : tie.Need-returns-3
 unfolding turnShown
@@ -47,9 +47,9 @@ returns-3 c =
     let full : length (start .args .t .seats) ≡ 9 = simp length-map at (start .good .0 .1 .1 .1 .1 .0 .1 .0 .1) in
     rw (
       sym (seat .before .before .broken .ensures) ∙ seat .before .if1 .left,
-      waits-below (start .args .t) full _ (seat .turn-seat .ensures) ∙ lt-ltb _ _ (c .before .if2 .left),
-      seat .turn-seat .ensures,
-      c .turn-place .ensures,
+      waits-below (start .args .t) full _ (seat .seat-in-turn .ensures) ∙ lt-ltb _ _ (c .before .if2 .left),
+      seat .seat-in-turn .ensures,
+      c .place-in-turn .ensures,
     )
 
 pub shown-turn-spec : {M : Type 1} → statement M
@@ -59,8 +59,8 @@ shown-turn-spec =
     broken-requires
     nobody-requires
     returns
-    turn-seat-requires
+    seat-in-turn-requires
     nobody-requires-2
     returns-2
-    turn-place-requires
+    place-in-turn-requires
     returns-3)

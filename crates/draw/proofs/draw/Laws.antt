@@ -18,8 +18,8 @@ use Rattle.payment.specs.Prize.{prize}
 use Rattle.table.specs.declared.Seat.{Seat}
 use Rattle.table.specs.declared.Shoe.{Shoe}
 use Rattle.table.specs.declared.Table.{Table}
-use Rattle.table.specs.Seat.{noSeat, purse, stake, hands}
-use Rattle.table.specs.Shoe.{drawn}
+use Rattle.table.specs.Seat.{missingSeat, purse, stake, hands}
+use Rattle.table.specs.Shoe.{withDrawn}
 use Rattle.table.specs.Table.{makeTable, withSeat, seatAt, up, cardsLeft}
 use Rattle.table.proofs.Facts.{unbroken, decks-416}
 use Rattle.table.proofs.Cover.{tray-covers}
@@ -27,9 +27,9 @@ use Rattle.decision_spec.specs.Round.{roundConditions, placeOf}
 use Rattle.decision_spec.specs.Turn.{turnConditions}
 use Rattle.decision_spec.specs.Card.{cardAhead, cardEffect}
 use Rattle.decision_spec.specs.Draw.{drawConditions}
-use Rattle.decisions.proofs.in_turn.InTurn.{in-turn, behind-turn}
-use Rattle.draw.specs.Grow.{moreOf, mayGrow, growConditions, grownBy, grownSeat}
-use Rattle.draw.specs.Drawable.{Drawable}
+use Rattle.decisions.proofs.turn.InTurn.{in-turn, behind-turn}
+use Rattle.draw.specs.Aids.Grow.{moreOf, mayGrow, growConditions, grownBy, grownSeat}
+use Rattle.draw.specs.Aids.Drawable.{Drawable}
 
 -- a condition that never holds may be left out
 first-skip : (cs rest : List Condition) (a : Condition) (n : ℕ) → first (cs ++ a ∷ (n, false) ∷ rest) ≡ first (cs ++ a ∷ rest)
@@ -75,11 +75,11 @@ module _ (code : ℕ) (t : Table) (j : ℕ) where
         turn = turn;
         purse-has = ltb-false (purse (seatAt t j)) (moreOf code (seatAt t j)) (at 6);
         tray-has = omega arith;
-        purse-fits = omega (arith, sound .money, sum-has purse (t .seats) j noSeat (omega (arith, turn .nine)));
+        purse-fits = omega (arith, sound .money, sum-has purse (t .seats) j missingSeat (omega (arith, turn .nine)));
         card-left = omega (arith, decks-416 t sound);
       }
 
-  pub next-is : (card ahead won more : ℕ) (s seat : Seat) (h : SeatHand) (rest : Shoe) (u : Table) → u ≡ withSeat t j seat → rest ≡ drawn (t .shoe) 1
+  pub next-is : (card ahead won more : ℕ) (s seat : Seat) (h : SeatHand) (rest : Shoe) (u : Table) → u ≡ withSeat t j seat → rest ≡ withDrawn (t .shoe) 1
       → seat ≡ grownSeat (t .options) card s h (purse s - more + won) → more ≡ moreOf code s → won ≡ prize (t .options) (stake s) (playedOf h)
       → h ≡ grownBy (placeOf s (waitingPlace (t .options) card (hands s))) ahead code → ahead ≡ cardAhead t 0 → card ≡ up t → s ≡ seatAt t j
       → makeTable (u .options) (t .tray - won) (u .seats) (u .bank) rest ≡ cardEffect (moreOf code (seatAt t j)) code t j

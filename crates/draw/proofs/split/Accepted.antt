@@ -22,8 +22,8 @@ use Rattle.cards.specs.Card.{isAce}
 use Rattle.decision_spec.specs.Round.{roundConditions}
 use Rattle.decision_spec.specs.Turn.{turnConditions}
 use Rattle.decision_spec.specs.Split.{splitConditions}
-use Rattle.decisions.proofs.in_turn.InTurn.{in-turn, behind-turn}
-use Rattle.draw.specs.SplitSeat.{pairConditions, waitingHand, splitSeat, Pays, Splits}
+use Rattle.decisions.proofs.turn.InTurn.{in-turn, behind-turn}
+use Rattle.draw.specs.Aids.SplitSeat.{pairConditions, waitingHand, splitSeat, Pays, Splits}
 
 -- the conditions of the pair, by their tests
 pub pair-first : (o : Options) (card : ℕ) (s : Seat) (pair full short : Bool)

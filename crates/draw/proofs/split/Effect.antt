@@ -9,11 +9,11 @@ use Rattle.table.specs.declared.Seat.{Seat}
 use Rattle.table.specs.declared.Shoe.{Shoe}
 use Rattle.table.specs.declared.Table.{Table}
 use Rattle.table.specs.Seat.{makeSeat, purse, stake, withPurse}
-use Rattle.table.specs.Shoe.{drawn}
+use Rattle.table.specs.Shoe.{withDrawn}
 use Rattle.table.specs.Table.{seatAt, up, withSeat, withShoe}
 use Rattle.decision_spec.specs.Card.{cardAhead}
 use Rattle.decision_spec.specs.Split.{splitHand, splitPlaces, splitEffect}
-use Rattle.draw.specs.SplitSeat.{parentHand, newHand, twoFor, splitSeat}
+use Rattle.draw.specs.Aids.SplitSeat.{parentHand, newHand, twoFor, splitSeat}
 
 -- a hand of a kept card of the pair
 pub same-kept : (h : SeatHand) (k kept card : ℕ) (made : SeatHand) → kept ≡ getD (cardsOf (h .hand)) k 0 → made ≡ splitHand kept card → made ≡ splitHand (getD (cardsOf (h .hand)) k 0) card
@@ -44,11 +44,11 @@ pub same-effect : (t : Table) (j : ℕ) (next : Seat) (first second : ℕ) (u : 
     → first ≡ cardAhead t 0
     → second ≡ cardAhead t 1
     → u ≡ withSeat t j next
-    → rest ≡ drawn (t .shoe) 2
+    → rest ≡ withDrawn (t .shoe) 2
     → withShoe u rest ≡ splitEffect t j
 unfolding splitEffect twoFor
 same-effect t j next first second u rest is-next is-first is-second is-u is-rest =
-    let with-next : Seat → Table = λ s. withShoe (withSeat t j s) (drawn (t .shoe) 2) in
+    let with-next : Seat → Table = λ s. withShoe (withSeat t j s) (withDrawn (t .shoe) 2) in
     let seat = splitSeat (t .options) (up t) (seatAt t j) in
     ap (λ (x : Table). withShoe x rest) is-u
     ∙ ap (withShoe (withSeat t j next)) is-rest

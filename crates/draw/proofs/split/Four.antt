@@ -5,11 +5,11 @@ use Prim.Native.Nat.{ℕ}
 use native.Mathlib.Omega.{arith}
 use lib.ListN.{length, getD}
 use Rattle.rules.specs.declared.seat_hand.SeatHand.{SeatHand}
-use Rattle.table.specs.Seat.{noPlace}
+use Rattle.table.specs.Seat.{missingPlace}
 use Rattle.decision_spec.specs.Split.{splitPlaces}
 
 abbrev pub four : List SeatHand → List SeatHand
-four xs = getD xs 0 noPlace ∷ getD xs 1 noPlace ∷ getD xs 2 noPlace ∷ getD xs 3 noPlace ∷ []
+four xs = getD xs 0 missingPlace ∷ getD xs 1 missingPlace ∷ getD xs 2 missingPlace ∷ getD xs 3 missingPlace ∷ []
 
 written : (xs : List SeatHand) → length xs ≡ 4 → four xs ≡ xs
 written [] full = absurd (omega arith)

@@ -7,22 +7,22 @@ use denote.Ref.{now}
 use borrow.Author.Needs.{needs}
 use Rattle.call.specs.declared.Call.{Call}
 use Rattle.call.specs.Refusal.{Condition}
-use Rattle.call.specs.Answer.{nothing}
+use Rattle.call.specs.Answer.{emptyShown}
 use Rattle.table.specs.declared.Table.{Table}
 use Rattle.answer.specs.declared.outcome.Outcome.{Outcome}
 use Rattle.answer.specs.Outcome.{outcome}
-use Rattle.answer.specs.declared.Stepped.{Stepped}
-use Rattle.answer.specs.Stepped.{stepped, stepOf, plainStep}
+use Rattle.answer.specs.declared.Reply.{Reply}
+use Rattle.answer.specs.Reply.{replyBy, viewOf, plainReply}
 use Rattle.answer.proofs.Laws.{plain}
 use Rattle.engine.specs.Step.{step}
 use Rattle.engine.proofs.step.Statement.{statement}
 use Rattle.engine.proofs.step.Tie as tie
 
 -- an arm whose call shows nothing
-plain-arm : (t : Table) (order : List ℕ) (conditions : List Condition) (effect : Table) {c d : Call} {o : Outcome} {r : Stepped}
-    → r ≡ plainStep o → o ≡ outcome conditions effect t → c ≡ d → stepped conditions nothing effect t ≡ step t d order → stepOf r ≡ step t c order
+plain-arm : (t : Table) (order : List ℕ) (conditions : List Condition) (effect : Table) {c d : Call} {o : Outcome} {r : Reply}
+    → r ≡ plainReply o → o ≡ outcome conditions effect t → c ≡ d → replyBy conditions emptyShown effect t ≡ step t d order → viewOf r ≡ step t c order
 plain-arm t order conditions effect {c} {d} {o} {r} shown called known same =
-    plain conditions effect t r (shown ∙ ap plainStep called) ∙ same ∙ ap (λ (x : Call). step t x order) (sym known)
+    plain conditions effect t r (shown ∙ ap plainReply called) ∙ same ∙ ap (λ (x : Call). step t x order) (sym known)
 
 enum-known-c : tie.Need-enum-known-c
 enum-known-c c = search needs
@@ -132,8 +132,8 @@ enum-told-4 c = search needs
 load-requires : tie.Need-load-requires
 load-requires c κs = search needs
 
-plain-step-requires : tie.Need-plain-step-requires
-plain-step-requires c κs = search needs
+plain-reply-requires : tie.Need-plain-reply-requires
+plain-reply-requires c κs = search needs
 
 -- the calls in the order of the arms; deal, void and load carry nothing, so that their arms bind one thing less
 returns-2 : tie.Need-returns-2
@@ -142,7 +142,7 @@ returns-2 c =
     let start = c .before .before .before in
     let t = start .args .t in
     let order = now (start .args .order) in
-    let made = c .plain-step .ensures in
+    let made = c .plain-reply .ensures in
     ⊎-elim (λ w. plain-arm t order _ _ made (w .4 ∙ w .3 .ensures) (w .1 .given .1) refl)
     (⊎-elim (λ w. plain-arm t order _ _ made (w .4 ∙ w .3 .ensures) (w .1 .given .1) refl)
     (⊎-elim (λ w. plain-arm t order _ _ made (w .4 ∙ w .3 .ensures) (w .1 .given .1) refl)
@@ -199,5 +199,5 @@ step-spec =
     void-requires
     enum-told-4
     load-requires
-    plain-step-requires
+    plain-reply-requires
     returns-2)

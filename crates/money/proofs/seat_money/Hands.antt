@@ -16,7 +16,7 @@ use Rattle.rules.specs.declared.seat_hand.SeatHands.{SeatHands}
 use Rattle.rules.specs.SeatHand.{Played, playedOf, handsOf}
 use Rattle.rules.proofs.seat_hand.Places.{none, many-hands, hand-at}
 use Rattle.payment.specs.Wager.{wager}
-use Rattle.payment.proofs.stake.Bounds.{wager-bounds, seat-prizes}
+use Rattle.payment.proofs.Bounds.{wager-bounds, seat-prizes}
 use Rattle.table.specs.declared.Seat.{Seat}
 use Rattle.table.specs.Seat.{stake, insurance, hands, laid, prizes}
 

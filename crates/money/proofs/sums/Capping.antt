@@ -13,21 +13,21 @@ use Rattle.table.specs.declared.Seat.{Seat}
 use Rattle.table.specs.declared.Table.{Table}
 use Rattle.table.specs.Seat.{purse, stake, isStaked, seatCover}
 use Rattle.table.specs.Table.{someStaked}
-use Rattle.table.specs.Money.{limit}
+use Rattle.table.specs.Money.{mostMoney}
 use Rattle.money.specs.declared.sums.Sums.{Sums}
 use Rattle.money.specs.Sums.{capped, tableSums}
 
 module _ (seats : List Seat) where
   -- past the limit with the cut purses exactly if past it with the purses
-  pub limit-capped : (a n : ℕ) → ltb limit (a + sum (λ s. capped (purse s)) seats + n) ≡ ltb limit (a + sum purse seats + n)
+  pub limit-capped : (a n : ℕ) → ltb mostMoney (a + sum (λ s. capped (purse s)) seats + n) ≡ ltb mostMoney (a + sum purse seats + n)
   limit-capped a n =
-      ltb-same limit (a + sum (λ s. capped (purse s)) seats + n) limit (a + sum purse seats + n)
-      (λ h. omega (arith, sum-cut-most purse (limit + 1) seats))
-      (λ h. omega (arith, sum-cut-least purse (limit + 1) seats))
+      ltb-same mostMoney (a + sum (λ s. capped (purse s)) seats + n) mostMoney (a + sum purse seats + n)
+      (λ h. omega (arith, sum-cut-most purse (mostMoney + 1) seats))
+      (λ h. omega (arith, sum-cut-least purse (mostMoney + 1) seats))
 
   -- within the limit the cut purses are the purses
-  pub within-capped : sum purse seats ≤ limit → sum (λ s. capped (purse s)) seats ≡ sum purse seats
-  within-capped h = omega (arith, sum-cut-most purse (limit + 1) seats, sum-cut-least purse (limit + 1) seats)
+  pub within-capped : sum purse seats ≤ mostMoney → sum (λ s. capped (purse s)) seats ≡ sum purse seats
+  within-capped h = omega (arith, sum-cut-most purse (mostMoney + 1) seats, sum-cut-least purse (mostMoney + 1) seats)
 
 module _ (t : Table) (m : Sums) (sums : m ≡ tableSums t) where
   -- some seat has a stake exactly if there is something to cover

@@ -9,13 +9,13 @@ use lib.ListN.{length, take, getD}
 use Rattle.lists.proofs.Sums.{sum-take}
 use Rattle.options.specs.declared.Options.{Options}
 use Rattle.table.specs.declared.Seat.{Seat}
-use Rattle.table.specs.Seat.{noSeat, stake, insurance, purse, laid, prizes, seatCover}
+use Rattle.table.specs.Seat.{missingSeat, stake, insurance, purse, laid, prizes, seatCover}
 use Rattle.money.proofs.seat_money.Hands.{laid-most, prizes-most}
 use Rattle.money.specs.declared.sums.Sums.{Sums}
 use Rattle.money.specs.Sums.{capped, sumsOver, seatSums, plusSums}
-use Rattle.money.specs.Within.{Within}
+use Rattle.money.specs.SumsFit.{SumsFit}
 
-pub seat-within : (o : Options) (s : Seat) → length (s .hands .places) ≡ 4 → stake s ≤ 4294967295 → insurance s ≤ 4294967295 → Within 1 (seatSums o s)
+pub seat-within : (o : Options) (s : Seat) → length (s .hands .places) ≡ 4 → stake s ≤ 4294967295 → insurance s ≤ 4294967295 → SumsFit 1 (seatSums o s)
 seat-within o s full staked insured =
     record {
       laid = omega (arith, laid-most s full);
@@ -25,18 +25,18 @@ seat-within o s full staked insured =
     }
 
 module _ (o : Options) (seats : List Seat) (i : ℕ) (h : i < length seats) where
-  one-more : plusSums (sumsOver o (take i seats)) (seatSums o (getD seats i noSeat)) ≡ sumsOver o (take (i + 1) seats)
+  one-more : plusSums (sumsOver o (take i seats)) (seatSums o (getD seats i missingSeat)) ≡ sumsOver o (take (i + 1) seats)
   one-more =
       rw (
         add-one i,
-        sum-take laid seats i noSeat,
-        sum-take (prizes o) seats i noSeat,
-        sum-take seatCover seats i noSeat,
-        sum-take (λ s. capped (purse s)) seats i noSeat,
+        sum-take laid seats i missingSeat,
+        sum-take (prizes o) seats i missingSeat,
+        sum-take seatCover seats i missingSeat,
+        sum-take (λ s. capped (purse s)) seats i missingSeat,
       )
 
-  pub next-seat : (a b : Sums) → a ≡ sumsOver o (take i seats) → b ≡ seatSums o (getD seats i noSeat) → plusSums a b ≡ sumsOver o (take (i + 1) seats)
+  pub next-seat : (a b : Sums) → a ≡ sumsOver o (take i seats) → b ≡ seatSums o (getD seats i missingSeat) → plusSums a b ≡ sumsOver o (take (i + 1) seats)
   next-seat a b first next = ap (λ (m : Sums). plusSums m b) first ∙ ap (plusSums (sumsOver o (take i seats))) next ∙ one-more
 
-pub within-more : (i : ℕ) (a b r : Sums) → Within i a → Within 1 b → r ≡ plusSums a b → Within (i + 1) r
+pub within-more : (i : ℕ) (a b r : Sums) → SumsFit i a → SumsFit 1 b → r ≡ plusSums a b → SumsFit (i + 1) r
 within-more i a b r few one e = rw e (record { laid = omega arith; prizes = omega arith; cover = omega arith; purses = omega arith })

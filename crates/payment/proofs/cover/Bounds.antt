@@ -18,7 +18,7 @@ use Rattle.payment.specs.Wager.{wager}
 use Rattle.payment.specs.HandPay.{byTotals, againstNatural, againstBank, handBack, handPay}
 use Rattle.payment.specs.Insurance.{insurancePay}
 use Rattle.payment.specs.Prize.{prize}
-use Rattle.payment.proofs.stake.Bounds.{wager-bounds, seat-prizes}
+use Rattle.payment.proofs.Bounds.{wager-bounds, seat-prizes}
 use Rattle.payment.specs.Cover.{cover}
 
 totals-most : (W mine bank : ℕ) → byTotals W mine bank ≤ W + W

@@ -15,7 +15,7 @@ use Rattle.rules.specs.declared.seat_hand.SeatHands.{SeatHands}
 use Rattle.rules.specs.SeatHand.{Played, playedOf, handsOf}
 use Rattle.rules.proofs.seat_hand.Places.{many-hands, hand-at}
 use Rattle.table.specs.declared.Shoe.{Shoe}
-use Rattle.table.specs.Seat.{noPlace}
+use Rattle.table.specs.Seat.{missingPlace}
 use Rattle.table.specs.Shoe.{makeShoe, discard}
 
 pub discard-none : (sh : Shoe) → sh ≡ discard sh []
@@ -48,13 +48,13 @@ module _ (s : SeatHands) (full : length (s .places) ≡ 4) (i : ℕ) (h : i < mi
   within : i < length (handsOf s)
   within = omega (arith, many-hands s full)
 
-  here : getD (handsOf s) i (playedOf noPlace) ≡ playedOf (getD (s .places) i noPlace)
-  here = hand-at s i noPlace (omega arith)
+  here : getD (handsOf s) i (playedOf missingPlace) ≡ playedOf (getD (s .places) i missingPlace)
+  here = hand-at s i missingPlace (omega arith)
 
-  pub hand-more : flat (λ x. x .cards) (take i (handsOf s)) ++ cardsOf (getD (s .places) i noPlace .hand) ≡ flat (λ x. x .cards) (take (i + 1) (handsOf s))
+  pub hand-more : flat (λ x. x .cards) (take i (handsOf s)) ++ cardsOf (getD (s .places) i missingPlace .hand) ≡ flat (λ x. x .cards) (take (i + 1) (handsOf s))
   hand-more =
       ap (λ (x : Played). flat (λ y. y .cards) (take i (handsOf s)) ++ x .cards) (sym here)
-      ∙ sym (flat-next (λ (x : Played). x .cards) (handsOf s) i (playedOf noPlace) within)
+      ∙ sym (flat-next (λ (x : Played). x .cards) (handsOf s) i (playedOf missingPlace) within)
 
-  pub hand-fits : length (flat (λ x. x .cards) (take i (handsOf s))) + length (cardsOf (getD (s .places) i noPlace .hand)) ≤ length (flat (λ x. x .cards) (handsOf s))
-  hand-fits = rw here at (flat-fits (λ (x : Played). x .cards) (handsOf s) i (playedOf noPlace) within)
+  pub hand-fits : length (flat (λ x. x .cards) (take i (handsOf s))) + length (cardsOf (getD (s .places) i missingPlace .hand)) ≤ length (flat (λ x. x .cards) (handsOf s))
+  hand-fits = rw here at (flat-fits (λ (x : Played). x .cards) (handsOf s) i (playedOf missingPlace) within)

@@ -8,7 +8,7 @@ use lib.Seq.{take-all, drop-length}
 use Rattle.lists.proofs.Stores.{copy-next}
 use Rattle.table.specs.declared.Seat.{Seat}
 use Rattle.table.specs.declared.Table.{Table}
-use Rattle.table.specs.Seat.{noSeat}
+use Rattle.table.specs.Seat.{missingSeat}
 use Rattle.table.specs.Table.{withSeats, withSeat, seatAt}
 
 module _ (f : Seat → Seat) (t : Table) where
@@ -24,7 +24,7 @@ module _ (f : Seat → Seat) (t : Table) where
   stored-next next i h so-far =
       let within : i < length (map f (t .seats)) = omega (arith, length-map (t .seats) f) in
       ap (λ (u : Table). withSeat u i (f (seatAt t i))) so-far
-      ∙ ap (withSeats t) (ap (set (storedSeats i) i) (sym (List·getD-map f (t .seats) i noSeat)) ∙ copy-next (map f (t .seats)) (t .seats) i (f noSeat) within h)
+      ∙ ap (withSeats t) (ap (set (storedSeats i) i) (sym (List·getD-map f (t .seats) i missingSeat)) ∙ copy-next (map f (t .seats)) (t .seats) i (f missingSeat) within h)
 
   pub stored-all : (i : ℕ) → i ≡ length (t .seats) → withSeats t (storedSeats i) ≡ withSeats t (map f (t .seats))
   stored-all i all =

@@ -1,6 +1,6 @@
 -- 416 zeros, as the definition says.
 use mathlib.Core.Path.{refl}
-use Rattle.shoe.specs.Empty.{noCards}
+use Rattle.shoe.specs.Aids.Empty.{noCards}
 use Rattle.shoe.proofs.no_cards.Statement.{statement}
 use Rattle.shoe.proofs.no_cards.Tie as tie
 

@@ -7,7 +7,7 @@ use borrow.Author.Needs.{needs}
 use borrow.Author.Tests.{le-leb, lt-leb}
 use lib.ListN.{length}
 use Rattle.table.specs.Broken.{soundShoe}
-use Rattle.card_count.proofs.faces.Orders.{too-short}
+use Rattle.card_count.proofs.valid_order.Orders.{too-short}
 use Rattle.card_count.proofs.conserved.cards_conserved.Statement.{statement}
 use Rattle.card_count.proofs.conserved.cards_conserved.Tie as tie
 

@@ -5,7 +5,7 @@ use native.Mathlib.Omega.{arith}
 use borrow.Author.Needs.{needs}
 use lib.ListN.{length, take, drop, length-take}
 use lib.Seq.{length-take-le}
-use Rattle.card_count.specs.Tally.{tally, noCounts}
+use Rattle.card_count.specs.Aids.Counters.{countedAll, noCounts}
 use Rattle.card_count.proofs.counters.Tallies.{room-zeros}
 use Rattle.card_count.proofs.conserved.Beside.{left-part}
 use Rattle.card_count.proofs.conserved.left_counts.Statement.{statement}
@@ -45,7 +45,7 @@ returns c =
     record {
       within = start .pre;
       whole = length-take-le all (sh .order) (omega (arith, start .pre .order));
-      counters = c .count .ensures ∙ ap (tally noCounts) (left-part (sh .drawn) all (sh .order) (start .pre .drawn));
+      counters = c .count .ensures ∙ ap (countedAll noCounts) (left-part (sh .drawn) all (sh .order) (start .pre .drawn));
     }
 
 pub left-counts-spec : {M : Type 1} → statement M

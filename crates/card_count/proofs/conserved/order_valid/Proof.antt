@@ -5,7 +5,7 @@ use native.Mathlib.Omega.{arith}
 use borrow.Author.Needs.{needs}
 use lib.ListN.{length, take, drop, length-take, length-drop}
 use lib.Seq.{length-take-le, take-take}
-use Rattle.card_count.specs.Tally.{tally}
+use Rattle.card_count.specs.Aids.Counters.{countedAll}
 use Rattle.table.specs.Shoe.{leftOf, orderOf}
 use Rattle.card_count.proofs.conserved.Beside.{room-left, drawn-decide}
 use Rattle.card_count.proofs.conserved.order_valid.Statement.{statement}
@@ -44,7 +44,7 @@ returns c =
     let sh = start .args .sh in
     let first : take (sh .drawn) (sh .order) ≡ take (sh .drawn) (orderOf decks sh) = sym (take-take (sh .drawn) (52 * decks) (sh .order) (start .pre .within .drawn)) in
     c .each-face .ensures
-    ∙ drawn-decide decks (sh .drawn) (orderOf decks sh) (start .args .left) (start .pre .whole) (start .pre .counters) _ (c .before .before .count .ensures ∙ ap (tally (start .args .left)) first)
+    ∙ drawn-decide decks (sh .drawn) (orderOf decks sh) (start .args .left) (start .pre .whole) (start .pre .counters) _ (c .before .before .count .ensures ∙ ap (countedAll (start .args .left)) first)
 
 pub order-valid-spec : {M : Type 1} → statement M
 order-valid-spec =

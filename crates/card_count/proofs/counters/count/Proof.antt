@@ -6,19 +6,19 @@ use native.Mathlib.Omega.{arith}
 use borrow.Author.Needs.{needs}
 use lib.ListN.{length, take, getD}
 use lib.Seq.{take-all, length-take-le}
-use Rattle.card_count.specs.Tally.{tally, counted, Room}
+use Rattle.card_count.specs.Aids.Counters.{countedAll, counted, Room}
 use Rattle.card_count.proofs.counters.Tallies.{tally-next, room-after}
 use Rattle.card_count.proofs.counters.count.Statement.{statement}
 use Rattle.card_count.proofs.counters.count.Tie as tie
 
 abbrev Inv-loop : tie.InvT-loop
-Inv-loop of₀ cards n i₀ of i = (i ≤ n) × (of ≡ tally of₀ (take i cards))
+Inv-loop of₀ cards n i₀ of i = (i ≤ n) × (of ≡ countedAll of₀ (take i cards))
 
 abbrev μ-loop : tie.MeasureT-loop
 μ-loop of₀ cards n i₀ of i = n - i
 
 loop-holds : tie.Need-loop-holds Inv-loop μ-loop
-unfolding tally
+unfolding countedAll
 loop-holds c = search needs
 
 shared-slice-read-at : tie.Need-shared-slice-read-at Inv-loop μ-loop
@@ -39,7 +39,7 @@ add-of c =
     let cards = at .before .args .cards .now in
     let i = at .loop .i in
     let below : i < length cards = omega arith in
-    let room : Room (tally (at .before .args .of .now) (take i cards)) 1 =
+    let room : Room (countedAll (at .before .args .of .now) (take i cards)) 1 =
     room-after _ (take i cards) (length cards) 1 (at .before .pre) (omega (arith, length-take-le i cards (omega arith))) in
     rw (at .loop .inv .1) (omega (arith, room .fits (getD cards i 0)))
 
@@ -66,7 +66,7 @@ loop-again c =
 returns : tie.Need-returns Inv-loop μ-loop
 returns c =
     let at = c .before in
-    at .loop .inv .1 ∙ ap (tally (at .before .args .of .now)) (take-all (at .loop .i) (at .before .args .cards .now) (omega arith))
+    at .loop .inv .1 ∙ ap (countedAll (at .before .args .of .now)) (take-all (at .loop .i) (at .before .args .cards .now) (omega arith))
 
 pub count-spec : {M : Type 1} → statement M
 count-spec =

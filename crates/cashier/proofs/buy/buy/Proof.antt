@@ -5,7 +5,7 @@ use native.Mathlib.Omega.{arith}
 use lib.ListN.{length, length-map}
 use borrow.Author.Needs.{needs}
 use Rattle.lists.proofs.Sums.{sum-has}
-use Rattle.table.specs.Seat.{noSeat, purse, withPurse}
+use Rattle.table.specs.Seat.{missingSeat, purse, withPurse}
 use Rattle.table.specs.Table.{seatAt, withSeat}
 use Rattle.table.specs.Money.{purses}
 use Rattle.table.specs.declared.Seat.{Seat}
@@ -28,8 +28,8 @@ returns c =
 cast-j : tie.Need-cast-j
 cast-j c = search needs
 
-seat-of-requires : tie.Need-seat-of-requires
-seat-of-requires c κs =
+seat-at-requires : tie.Need-seat-at-requires
+seat-at-requires c κs =
     let start = c .before .before .before in
     buy-accepted (start .args .t) (start .args .at .seat) (start .args .n) (sym (c .before .before .buy-number .ensures) ∙ c .before .if1 .left) .0
 
@@ -39,8 +39,8 @@ add-with-purse c =
     let t = start .args .t in
     let nine : length (t .seats) ≡ 9 = simp length-map at (start .good .0 .1 .1 .1 .1 .0 .1 .0 .1) in
     let (within, most) = buy-accepted (start .args .t) (start .args .at .seat) (start .args .n) (sym (c .before .before .before .before .before .buy-number .ensures) ∙ c .before .before .before .before .if1 .left) in
-    let held : purse (seatAt t (start .args .at .seat)) ≤ purses t = sum-has purse (t .seats) (start .args .at .seat) noSeat (omega arith) in
-    let same : c .before .before .seat-of .result .money .purse ≡ purse (seatAt t (start .args .at .seat)) = ap purse (c .before .before .seat-of .ensures) in
+    let held : purse (seatAt t (start .args .at .seat)) ≤ purses t = sum-has purse (t .seats) (start .args .at .seat) missingSeat (omega arith) in
+    let same : c .before .before .seat-at .result .money .purse ≡ purse (seatAt t (start .args .at .seat)) = ap purse (c .before .before .seat-at .ensures) in
     record { fits = omega arith }
 
 with-purse-requires : tie.Need-with-purse-requires
@@ -56,7 +56,7 @@ returns-2 c =
     let j = c .before .before .before .before .before .before .before .before .args .at .seat in
     let n = c .before .before .before .before .before .before .before .before .args .n in
     let next : c .before .with-purse .result ≡ withPurse (seatAt t j) (purse (seatAt t j) + n)
-    = c .before .with-purse .ensures ∙ ap (λ (s : Seat). withPurse s (purse s + n)) (c .before .before .before .before .seat-of .ensures) in
+    = c .before .with-purse .ensures ∙ ap (λ (s : Seat). withPurse s (purse s + n)) (c .before .before .before .before .seat-at .ensures) in
     accepted (buyConditions t j n) (buyEffect t j n) t _ _ (c .before .before .before .before .before .before .before .buy-number .ensures) (c .before .before .before .before .before .before .if1 .left)
     (c .with-seat .ensures ∙ ap (withSeat t j) next)
 
@@ -67,7 +67,7 @@ buy-spec =
     buy-number-requires
     returns
     cast-j
-    seat-of-requires
+    seat-at-requires
     add-with-purse
     with-purse-requires
     with-seat-requires

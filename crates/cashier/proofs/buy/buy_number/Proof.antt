@@ -3,7 +3,7 @@ use mathlib.Core.Path.{sym, _∙_}
 use borrow.Author.Needs.{needs}
 use borrow.Author.Tests.{eq-eqb, ne-eqb}
 use Rattle.call.proofs.Refusals.{first-before, first-here, first-next, first-last}
-use Rattle.money.proofs.limits.Laws.{past-limit}
+use Rattle.money.proofs.most_money.Laws.{past-limit}
 use Rattle.cashier_spec.specs.Buy.{buyConditions}
 use Rattle.cashier_spec.specs.Between.{betweenConditions}
 use Rattle.cashier.proofs.between.Answer.{between-behind}
@@ -32,8 +32,8 @@ returns-2 c =
 table-sums-requires : tie.Need-table-sums-requires
 table-sums-requires c κs = search needs
 
-over-limit-requires : tie.Need-over-limit-requires
-over-limit-requires c κs = search needs
+past-most-money-requires : tie.Need-past-most-money-requires
+past-most-money-requires c κs = search needs
 
 returns-3 : tie.Need-returns-3
 unfolding buyConditions
@@ -41,7 +41,7 @@ returns-3 c =
     let start = c .before .before .before .before .before .before .before in
     sym (between-behind (start .args .t) (start .args .at .seat) (sym (c .before .before .before .before .before .between-number .ensures) ∙ c .before .before .before .before .if1 .left) _
     ∙ first-next _ _ _ (ne-eqb _ _ (c .before .before .before .if2 .left))
-    ∙ first-here _ _ _ (sym (c .before .over-limit .ensures ∙ past-limit (start .args .t) _ (start .args .n) (c .before .before .table-sums .ensures)) ∙ c .if3 .taken))
+    ∙ first-here _ _ _ (sym (c .before .past-most-money .ensures ∙ past-limit (start .args .t) _ (start .args .n) (c .before .before .table-sums .ensures)) ∙ c .if3 .taken))
 
 returns-4 : tie.Need-returns-4
 unfolding buyConditions
@@ -49,7 +49,7 @@ returns-4 c =
     let start = c .before .before .before .before .before .before .before in
     sym (between-behind (start .args .t) (start .args .at .seat) (sym (c .before .before .before .before .before .between-number .ensures) ∙ c .before .before .before .before .if1 .left) _
     ∙ first-next _ _ _ (ne-eqb _ _ (c .before .before .before .if2 .left))
-    ∙ first-last _ _ (sym (c .before .over-limit .ensures ∙ past-limit (start .args .t) _ (start .args .n) (c .before .before .table-sums .ensures)) ∙ c .if3 .left))
+    ∙ first-last _ _ (sym (c .before .past-most-money .ensures ∙ past-limit (start .args .t) _ (start .args .n) (c .before .before .table-sums .ensures)) ∙ c .if3 .left))
 
 pub buy-number-spec : {M : Type 1} → statement M
 buy-number-spec =
@@ -60,6 +60,6 @@ buy-number-spec =
     returns
     returns-2
     table-sums-requires
-    over-limit-requires
+    past-most-money-requires
     returns-3
     returns-4)

@@ -25,8 +25,8 @@ returns c =
 cast-j : tie.Need-cast-j
 cast-j c = search needs
 
-seat-of-requires : tie.Need-seat-of-requires
-seat-of-requires c κs =
+seat-at-requires : tie.Need-seat-at-requires
+seat-at-requires c κs =
     let start = c .before .before .before in
     cash-accepted (start .args .t) (start .args .at .seat) (start .args .n) (sym (c .before .before .cash-number .ensures) ∙ c .before .if1 .left) .0
 
@@ -34,7 +34,7 @@ sub-with-purse : tie.Need-sub-with-purse
 sub-with-purse c =
     let start = c .before .before .before .before .before .before in
     let (within, enough) = cash-accepted (start .args .t) (start .args .at .seat) (start .args .n) (sym (c .before .before .before .before .before .cash-number .ensures) ∙ c .before .before .before .before .if1 .left) in
-    let same : c .before .before .seat-of .result .money .purse ≡ purse (seatAt (start .args .t) (start .args .at .seat)) = ap purse (c .before .before .seat-of .ensures) in
+    let same : c .before .before .seat-at .result .money .purse ≡ purse (seatAt (start .args .t) (start .args .at .seat)) = ap purse (c .before .before .seat-at .ensures) in
     omega arith
 
 with-purse-requires : tie.Need-with-purse-requires
@@ -50,7 +50,7 @@ returns-2 c =
     let j = c .before .before .before .before .before .before .before .before .args .at .seat in
     let n = c .before .before .before .before .before .before .before .before .args .n in
     let next : c .before .with-purse .result ≡ withPurse (seatAt t j) (purse (seatAt t j) - n)
-    = c .before .with-purse .ensures ∙ ap (λ (s : Seat). withPurse s (purse s - n)) (c .before .before .before .before .seat-of .ensures) in
+    = c .before .with-purse .ensures ∙ ap (λ (s : Seat). withPurse s (purse s - n)) (c .before .before .before .before .seat-at .ensures) in
     accepted (cashConditions t j n) (cashEffect t j n) t _ _ (c .before .before .before .before .before .before .before .cash-number .ensures) (c .before .before .before .before .before .before .if1 .left)
     (c .with-seat .ensures ∙ ap (withSeat t j) next)
 
@@ -61,7 +61,7 @@ cash-spec =
     cash-number-requires
     returns
     cast-j
-    seat-of-requires
+    seat-at-requires
     sub-with-purse
     with-purse-requires
     with-seat-requires

@@ -31,11 +31,11 @@ returns-2 c =
     sym (between-behind (start .args .t) (start .args .at .seat) (sym (c .before .before .between-number .ensures) ∙ c .before .if1 .left) _
     ∙ first-here _ _ _ (eq-eqb _ _ (c .if2 .taken)))
 
-cast-seat-of : tie.Need-cast-seat-of
-cast-seat-of c = search needs
+cast-seat-at : tie.Need-cast-seat-at
+cast-seat-at c = search needs
 
-seat-of-requires : tie.Need-seat-of-requires
-seat-of-requires c κs =
+seat-at-requires : tie.Need-seat-at-requires
+seat-at-requires c κs =
     let start = c .before .before .before .before .before in
     between-seat (start .args .t) (start .args .at .seat) (sym (c .before .before .before .between-number .ensures) ∙ c .before .before .if1 .left)
 
@@ -46,7 +46,7 @@ returns-3 c =
     let n = start .args .n in
     sym (between-behind (start .args .t) (start .args .at .seat) (sym (c .before .before .before .before .before .before .before .between-number .ensures) ∙ c .before .before .before .before .before .before .if1 .left) _
     ∙ first-next _ _ _ (ne-eqb _ _ (c .before .before .before .before .before .if2 .left))
-    ∙ first-here _ _ _ (ap (λ (s : Seat). ltb (purse s) n) (sym (c .before .before .before .seat-of .ensures)) ∙ lt-ltb _ _ (c .if3 .taken)))
+    ∙ first-here _ _ _ (ap (λ (s : Seat). ltb (purse s) n) (sym (c .before .before .before .seat-at .ensures)) ∙ lt-ltb _ _ (c .if3 .taken)))
 
 returns-4 : tie.Need-returns-4
 unfolding cashConditions
@@ -55,7 +55,7 @@ returns-4 c =
     let n = start .args .n in
     sym (between-behind (start .args .t) (start .args .at .seat) (sym (c .before .before .before .before .before .before .before .between-number .ensures) ∙ c .before .before .before .before .before .before .if1 .left) _
     ∙ first-next _ _ _ (ne-eqb _ _ (c .before .before .before .before .before .if2 .left))
-    ∙ first-last _ _ (ap (λ (s : Seat). ltb (purse s) n) (sym (c .before .before .before .seat-of .ensures)) ∙ le-ltb _ _ (c .if3 .left)))
+    ∙ first-last _ _ (ap (λ (s : Seat). ltb (purse s) n) (sym (c .before .before .before .seat-at .ensures)) ∙ le-ltb _ _ (c .if3 .left)))
 
 pub cash-number-spec : {M : Type 1} → statement M
 cash-number-spec =
@@ -65,7 +65,7 @@ cash-number-spec =
     between-number-requires
     returns
     returns-2
-    cast-seat-of
-    seat-of-requires
+    cast-seat-at
+    seat-at-requires
     returns-3
     returns-4)

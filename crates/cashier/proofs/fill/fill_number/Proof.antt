@@ -3,7 +3,7 @@ use mathlib.Core.Path.{sym, _∙_}
 use borrow.Author.Needs.{needs}
 use borrow.Author.Tests.{eq-eqb, ne-eqb}
 use Rattle.call.specs.Refusal.{first}
-use Rattle.money.proofs.limits.Laws.{past-limit}
+use Rattle.money.proofs.most_money.Laws.{past-limit}
 use Rattle.cashier_spec.specs.Fill.{fillConditions}
 use Rattle.cashier.proofs.fill.fill_number.Statement.{statement}
 use Rattle.cashier.proofs.fill.fill_number.Tie as tie
@@ -38,8 +38,8 @@ returns-3 c =
 table-sums-requires : tie.Need-table-sums-requires
 table-sums-requires c κs = search needs
 
-over-limit-requires : tie.Need-over-limit-requires
-over-limit-requires c κs = search needs
+past-most-money-requires : tie.Need-past-most-money-requires
+past-most-money-requires c κs = search needs
 
 returns-4 : tie.Need-returns-4
 unfolding fillConditions first
@@ -49,7 +49,7 @@ returns-4 c =
       sym (c .before .before .before .before .before .before .before .broken .ensures) ∙ c .before .before .before .before .before .before .if1 .left,
       sym (c .before .before .before .before .before .is-dealt .ensures) ∙ c .before .before .before .before .if2 .left,
       ne-eqb _ _ (c .before .before .before .if3 .left),
-      sym (c .before .over-limit .ensures ∙ past-limit (start .args .t) _ (start .args .n) (c .before .before .table-sums .ensures)) ∙ c .if4 .taken,
+      sym (c .before .past-most-money .ensures ∙ past-limit (start .args .t) _ (start .args .n) (c .before .before .table-sums .ensures)) ∙ c .if4 .taken,
     )
 
 returns-5 : tie.Need-returns-5
@@ -60,7 +60,7 @@ returns-5 c =
       sym (c .before .before .before .before .before .before .before .broken .ensures) ∙ c .before .before .before .before .before .before .if1 .left,
       sym (c .before .before .before .before .before .is-dealt .ensures) ∙ c .before .before .before .before .if2 .left,
       ne-eqb _ _ (c .before .before .before .if3 .left),
-      sym (c .before .over-limit .ensures ∙ past-limit (start .args .t) _ (start .args .n) (c .before .before .table-sums .ensures)) ∙ c .if4 .left,
+      sym (c .before .past-most-money .ensures ∙ past-limit (start .args .t) _ (start .args .n) (c .before .before .table-sums .ensures)) ∙ c .if4 .left,
     )
 
 pub fill-number-spec : {M : Type 1} → statement M
@@ -73,6 +73,6 @@ fill-number-spec =
     returns-2
     returns-3
     table-sums-requires
-    over-limit-requires
+    past-most-money-requires
     returns-4
     returns-5)

@@ -25,8 +25,8 @@ returns c =
 cast-j : tie.Need-cast-j
 cast-j c = search needs
 
-seat-of-requires : tie.Need-seat-of-requires
-seat-of-requires c κs =
+seat-at-requires : tie.Need-seat-at-requires
+seat-at-requires c κs =
     let start = c .before .before .before in
     stake-accepted (start .args .t) (start .args .at .seat) (start .args .n) (sym (c .before .before .stake-number .ensures) ∙ c .before .if1 .left) .0
 
@@ -34,7 +34,7 @@ staked-requires : tie.Need-staked-requires
 staked-requires c κs =
     let start = c .before .before .before .before in
     let facts = stake-accepted (start .args .t) (start .args .at .seat) (start .args .n) (sym (c .before .before .before .stake-number .ensures) ∙ c .before .before .if1 .left) in
-    let same : purse (c .seat-of .result) ≡ purse (seatAt (start .args .t) (start .args .at .seat)) = ap purse (c .seat-of .ensures) in
+    let same : purse (c .seat-at .result) ≡ purse (seatAt (start .args .t) (start .args .at .seat)) = ap purse (c .seat-at .ensures) in
     (omega (arith, facts .1), facts .2)
 
 with-seat-requires : tie.Need-with-seat-requires
@@ -47,7 +47,7 @@ returns-2 c =
     let j = c .before .before .before .before .before .before .args .at .seat in
     let n = c .before .before .before .before .before .before .args .n in
     let next : c .before .staked .result ≡ makeSeat (money (purse (seatAt t j) - n) n (insurance (seatAt t j))) (seatAt t j .hands)
-    = c .before .staked .ensures ∙ ap (λ (s : Seat). makeSeat (money (purse s - n) n (insurance s)) (s .hands)) (c .before .before .seat-of .ensures) in
+    = c .before .staked .ensures ∙ ap (λ (s : Seat). makeSeat (money (purse s - n) n (insurance s)) (s .hands)) (c .before .before .seat-at .ensures) in
     accepted (stakeConditions t j n) (stakeEffect t j n) t _ _ (c .before .before .before .before .before .stake-number .ensures) (c .before .before .before .before .if1 .left)
     (c .with-seat .ensures ∙ ap (withSeat t j) next)
 
@@ -58,7 +58,7 @@ stake-spec =
     stake-number-requires
     returns
     cast-j
-    seat-of-requires
+    seat-at-requires
     staked-requires
     with-seat-requires
     returns-2)

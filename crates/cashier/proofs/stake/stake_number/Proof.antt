@@ -25,11 +25,11 @@ returns c =
     let start = c .before .before .before .before in
     sym (first-before (betweenConditions (start .args .t) (start .args .at .seat)) _ _ (sym (c .before .between-number .ensures)) (c .if1 .taken))
 
-cast-seat-of : tie.Need-cast-seat-of
-cast-seat-of c = search needs
+cast-seat-at : tie.Need-cast-seat-at
+cast-seat-at c = search needs
 
-seat-of-requires : tie.Need-seat-of-requires
-seat-of-requires c κs =
+seat-at-requires : tie.Need-seat-at-requires
+seat-at-requires c κs =
     let start = c .before .before .before .before .before in
     between-seat (start .args .t) (start .args .at .seat) (sym (c .before .before .between-number .ensures) ∙ c .before .if1 .left)
 
@@ -38,14 +38,14 @@ unfolding stakeConditions
 returns-2 c =
     let start = c .before .before .before .before .before .before .before .before .before in
     sym (between-behind (start .args .t) (start .args .at .seat) (sym (c .before .before .before .before .before .before .between-number .ensures) ∙ c .before .before .before .before .before .if1 .left) _
-    ∙ first-here _ _ _ (ap isStaked (sym (c .before .before .before .seat-of .ensures)) ∙ lt-ltb _ _ (c .if2 .taken)))
+    ∙ first-here _ _ _ (ap isStaked (sym (c .before .before .before .seat-at .ensures)) ∙ lt-ltb _ _ (c .if2 .taken)))
 
 returns-3 : tie.Need-returns-3
 unfolding stakeConditions
 returns-3 c =
     let start = c .before .before .before .before .before .before .before .before .before .before in
     sym (between-behind (start .args .t) (start .args .at .seat) (sym (c .before .before .before .before .before .before .before .between-number .ensures) ∙ c .before .before .before .before .before .before .if1 .left) _
-    ∙ first-next _ _ _ (ap isStaked (sym (c .before .before .before .before .seat-of .ensures)) ∙ le-ltb _ _ (c .before .if2 .left))
+    ∙ first-next _ _ _ (ap isStaked (sym (c .before .before .before .before .seat-at .ensures)) ∙ le-ltb _ _ (c .before .if2 .left))
     ∙ first-here _ _ _ (eq-eqb _ _ (c .if3 .taken)))
 
 stake-permitted-requires : tie.Need-stake-permitted-requires
@@ -56,7 +56,7 @@ unfolding stakeConditions
 returns-4 c =
     let start = c .before .before .before .before .before .before .before .before .before .before .before .before in
     sym (between-behind (start .args .t) (start .args .at .seat) (sym (c .before .before .before .before .before .before .before .before .before .between-number .ensures) ∙ c .before .before .before .before .before .before .before .before .if1 .left) _
-    ∙ first-next _ _ _ (ap isStaked (sym (c .before .before .before .before .before .before .seat-of .ensures)) ∙ le-ltb _ _ (c .before .before .before .if2 .left))
+    ∙ first-next _ _ _ (ap isStaked (sym (c .before .before .before .before .before .before .seat-at .ensures)) ∙ le-ltb _ _ (c .before .before .before .if2 .left))
     ∙ first-next _ _ _ (ne-eqb _ _ (c .before .before .if3 .left))
     ∙ first-here _ _ _ (ap not (sym (c .before .stake-permitted .ensures)) ∙ c .if4 .taken))
 
@@ -66,10 +66,10 @@ returns-5 c =
     let start = c .before .before .before .before .before .before .before .before .before .before .before .before .before .before in
     let n = start .args .n in
     sym (between-behind (start .args .t) (start .args .at .seat) (sym (c .before .before .before .before .before .before .before .before .before .before .before .between-number .ensures) ∙ c .before .before .before .before .before .before .before .before .before .before .if1 .left) _
-    ∙ first-next _ _ _ (ap isStaked (sym (c .before .before .before .before .before .before .before .before .seat-of .ensures)) ∙ le-ltb _ _ (c .before .before .before .before .before .if2 .left))
+    ∙ first-next _ _ _ (ap isStaked (sym (c .before .before .before .before .before .before .before .before .seat-at .ensures)) ∙ le-ltb _ _ (c .before .before .before .before .before .if2 .left))
     ∙ first-next _ _ _ (ne-eqb _ _ (c .before .before .before .before .if3 .left))
     ∙ first-next _ _ _ (ap not (sym (c .before .before .before .stake-permitted .ensures)) ∙ c .before .before .if4 .left)
-    ∙ first-here _ _ _ (ap (λ (s : Seat). ltb (purse s) n) (sym (c .before .before .before .before .before .before .before .before .seat-of .ensures)) ∙ lt-ltb _ _ (c .if5 .taken)))
+    ∙ first-here _ _ _ (ap (λ (s : Seat). ltb (purse s) n) (sym (c .before .before .before .before .before .before .before .before .seat-at .ensures)) ∙ lt-ltb _ _ (c .if5 .taken)))
 
 returns-6 : tie.Need-returns-6
 unfolding stakeConditions
@@ -77,10 +77,10 @@ returns-6 c =
     let start = c .before .before .before .before .before .before .before .before .before .before .before .before .before .before in
     let n = start .args .n in
     sym (between-behind (start .args .t) (start .args .at .seat) (sym (c .before .before .before .before .before .before .before .before .before .before .before .between-number .ensures) ∙ c .before .before .before .before .before .before .before .before .before .before .if1 .left) _
-    ∙ first-next _ _ _ (ap isStaked (sym (c .before .before .before .before .before .before .before .before .seat-of .ensures)) ∙ le-ltb _ _ (c .before .before .before .before .before .if2 .left))
+    ∙ first-next _ _ _ (ap isStaked (sym (c .before .before .before .before .before .before .before .before .seat-at .ensures)) ∙ le-ltb _ _ (c .before .before .before .before .before .if2 .left))
     ∙ first-next _ _ _ (ne-eqb _ _ (c .before .before .before .before .if3 .left))
     ∙ first-next _ _ _ (ap not (sym (c .before .before .before .stake-permitted .ensures)) ∙ c .before .before .if4 .left)
-    ∙ first-last _ _ (ap (λ (s : Seat). ltb (purse s) n) (sym (c .before .before .before .before .before .before .before .before .seat-of .ensures)) ∙ le-ltb _ _ (c .if5 .left)))
+    ∙ first-last _ _ (ap (λ (s : Seat). ltb (purse s) n) (sym (c .before .before .before .before .before .before .before .before .seat-at .ensures)) ∙ le-ltb _ _ (c .if5 .left)))
 
 pub stake-number-spec : {M : Type 1} → statement M
 stake-number-spec =
@@ -89,8 +89,8 @@ stake-number-spec =
     broken-requires
     between-number-requires
     returns
-    cast-seat-of
-    seat-of-requires
+    cast-seat-at
+    seat-at-requires
     returns-2
     returns-3
     stake-permitted-requires

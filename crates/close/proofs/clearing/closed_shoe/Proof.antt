@@ -6,7 +6,7 @@ use native.Mathlib.Omega.{arith}
 use borrow.Author.Needs.{needs}
 use lib.ListN.{length, length-map}
 use Rattle.table.specs.declared.Shoe.{Shoe}
-use Rattle.table.specs.Shoe.{drawn}
+use Rattle.table.specs.Shoe.{withDrawn}
 use Rattle.close_spec.specs.BankDraw.{closeTakes}
 use Rattle.close.proofs.clearing.Clears.{taken-fits, room-closed, burn-fits, held-taken, room-seats, room-bank, bank-all}
 use Rattle.close.proofs.clearing.closed_shoe.Statement.{statement}
@@ -46,23 +46,23 @@ discard-hand-requires c κs =
 held-requires : tie.Need-held-requires
 held-requires c κs = search needs
 
-add-draw-cards : tie.Need-add-draw-cards
-add-draw-cards c =
+add-with-drawn : tie.Need-add-with-drawn
+add-with-drawn c =
     let start = c .before .before .before .before .before .before .before in
     let full : length (start .args .bank .cards) ≡ 20 = simp length-map at (start .good .1 .0 .1 .1 .0 .1 .0 .1) in
     let taken = held-taken (start .args .t) (start .args .bank) (start .pre) (c .held .result) full (c .held .ensures) in
     let fits = taken-fits (start .args .t) (start .args .bank) (start .pre) in
     omega arith
 
-sub-draw-cards : tie.Need-sub-draw-cards
-sub-draw-cards c =
+sub-with-drawn : tie.Need-sub-with-drawn
+sub-with-drawn c =
     let start = c .before .before .before .before .before .before .before in
     let full : length (start .args .bank .cards) ≡ 20 = simp length-map at (start .good .1 .0 .1 .1 .0 .1 .0 .1) in
     let taken = held-taken (start .args .t) (start .args .bank) (start .pre) (c .held .result) full (c .held .ensures) in
     omega arith
 
-draw-cards-requires : tie.Need-draw-cards-requires
-draw-cards-requires c κs =
+with-drawn-requires : tie.Need-with-drawn-requires
+with-drawn-requires c κs =
     let all = c .before in
     let seats = all .before in
     let burns = seats .before in
@@ -90,7 +90,7 @@ returns c =
     ∙ bank-all t bank (start .pre) (burnt .bank-burn .result) (burnt .bank-burn .ensures) (burns .burn .result) (burns .burn .ensures) (seats .discard-seats .result) (seats .discard-seats .ensures) in
     let taken = held-taken t bank (start .pre) (c .before .held .result) full (c .before .held .ensures) in
     let now : burnt .bank-burn .result + c .before .held .result - 1 ≡ closeTakes t = omega arith in
-    c .draw-cards .ensures ∙ ap (drawn (all .discard-hand .result)) now ∙ ap (λ (s : Shoe). drawn s (closeTakes t)) cards
+    c .with-drawn .ensures ∙ ap (withDrawn (all .discard-hand .result)) now ∙ ap (λ (s : Shoe). withDrawn s (closeTakes t)) cards
 
 pub closed-shoe-spec : {M : Type 1} → statement M
 closed-shoe-spec =
@@ -101,7 +101,7 @@ closed-shoe-spec =
     discard-seats-requires
     discard-hand-requires
     held-requires
-    add-draw-cards
-    sub-draw-cards
-    draw-cards-requires
+    add-with-drawn
+    sub-with-drawn
+    with-drawn-requires
     returns)

@@ -7,8 +7,8 @@ use borrow.Author.Needs.{needs}
 use lib.ListN.{length, take, getD, length-map}
 use lib.Seq.{take-all}
 use Rattle.table.specs.declared.Seat.{Seat}
-use Rattle.table.specs.Seat.{noSeat}
-use Rattle.close_spec.specs.Lines.{seatLines, allLines}
+use Rattle.table.specs.Seat.{missingSeat}
+use Rattle.close_spec.specs.PayLines.{seatLines, allLines}
 use Rattle.close_spec.proofs.Lines.{seat-lines-next}
 use Rattle.answer.specs.declared.PayLines.{PayLines}
 use Rattle.answer.specs.Settlement.{emptyLines, withLines}
@@ -60,8 +60,8 @@ loop-again c =
       omega arith,
       omega arith,
       lines-more emptyLines (at .loop .next) (c .seat-lines .result)
-          (allLines (t .options) bank 0 (take i (t .seats))) (seatLines (t .options) bank i (getD (t .seats) i noSeat)) _
-          (at .loop .inv .2) (c .seat-lines .ensures .1) (sym (seat-lines-next (t .options) bank i (t .seats) noSeat (omega arith))),
+          (allLines (t .options) bank 0 (take i (t .seats))) (seatLines (t .options) bank i (getD (t .seats) i missingSeat)) _
+          (at .loop .inv .2) (c .seat-lines .ensures .1) (sym (seat-lines-next (t .options) bank i (t .seats) missingSeat (omega arith))),
     )
 
 returns : tie.Need-returns Inv-loop μ-loop

@@ -9,8 +9,8 @@ use lib.Seq.{take-all}
 use Rattle.rules.specs.SeatHand.{Played, playedOf, handsOf}
 use Rattle.rules.proofs.seat_hand.Places.{many-hands}
 use Rattle.payment.specs.Pay.{net}
-use Rattle.table.specs.Seat.{noPlace}
-use Rattle.close_spec.specs.Lines.{handLines}
+use Rattle.table.specs.Seat.{missingPlace}
+use Rattle.close_spec.specs.PayLines.{handLines}
 use Rattle.answer.specs.Settlement.{withLines}
 use Rattle.answer.proofs.Lines.{lines-none, line-counted}
 use Rattle.close.proofs.pay_lines.Pays.{hand-pay-small, net-kept}
@@ -49,7 +49,7 @@ net-of-requires c κs =
     let at = c .before .before .before in
     let start = at .before .before in
     hand-pay-small (start .args .bank) (start .args .stake) (omega arith) (c .hand-pay .result) (start .args .o)
-    (playedOf (getD (start .args .t6 .places) (at .loop .place) noPlace)) (c .hand-pay .ensures)
+    (playedOf (getD (start .args .t6 .places) (at .loop .place) missingPlace)) (c .hand-pay .ensures)
 
 with-line-requires : tie.Need-with-line-requires Inv-loop μ-loop
 with-line-requires c κs = search needs
@@ -67,7 +67,7 @@ loop-again c =
     let a = start .args in
     let full : length (a .t6 .places) ≡ 4 = simp length-map at (start .good .1 .1 .1 .1 .1 .0 .1 .1 .0 .1 .0 .1) in
     let paid = c .before .before .hand-pay .result in
-    let h = playedOf (getD (a .t6 .places) (at .loop .place) noPlace) in
+    let h = playedOf (getD (a .t6 .places) (at .loop .place) missingPlace) in
     let small = hand-pay-small (a .bank) (a .stake) (omega arith) paid (a .o) h (c .before .before .hand-pay .ensures) in
     let kept = net-kept paid small (c .before .net-of .result) (c .before .net-of .ensures) in (
       omega arith,

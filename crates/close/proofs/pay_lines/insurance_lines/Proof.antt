@@ -5,7 +5,7 @@ use borrow.Author.Needs.{needs}
 use borrow.Author.Tests.{lt-ltb, le-ltb}
 use lib.IntN.{ℤ}
 use Rattle.payment.specs.Pay.{net}
-use Rattle.close_spec.specs.Lines.{line, insuranceKind, insuranceLines}
+use Rattle.close_spec.specs.PayLines.{line, insuranceKind, insuranceLines}
 use Rattle.answer.specs.Settlement.{withLine}
 use Rattle.answer.proofs.Lines.{lines-none, line-one, line-counted}
 use Rattle.close.proofs.pay_lines.Pays.{insurance-pay-small, net-kept}

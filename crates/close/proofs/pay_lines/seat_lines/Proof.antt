@@ -2,7 +2,7 @@
 use mathlib.Core.Path.{refl}
 use native.Mathlib.Omega.{arith}
 use borrow.Author.Needs.{needs}
-use Rattle.close_spec.specs.Lines.{handLines, insuranceLines, seatLines}
+use Rattle.close_spec.specs.PayLines.{handLines, insuranceLines, seatLines}
 use Rattle.rules.specs.SeatHand.{handsOf}
 use Rattle.answer.proofs.Lines.{lines-more}
 use Rattle.close.proofs.pay_lines.seat_lines.Statement.{statement}

@@ -8,7 +8,7 @@ use lib.ListN.{length, take, length-map}
 use lib.Seq.{take-all}
 use Rattle.lists.specs.Sum.{sum}
 use Rattle.lists.proofs.Sums.{sum-take}
-use Rattle.table.specs.Seat.{noSeat}
+use Rattle.table.specs.Seat.{missingSeat}
 use Rattle.close_spec.specs.Close.{seatBack}
 use Rattle.close.proofs.paying.seats_back.Statement.{statement}
 use Rattle.close.proofs.paying.seats_back.Tie as tie
@@ -47,7 +47,7 @@ loop-again c =
     let start = at .before .before in
     let t = start .args .t1 in
     let full : length (t .seats) ≡ 9 = simp length-map at (start .good .0 .1 .1 .1 .1 .0 .1 .0 .1) in
-    (omega arith, rw (add-one, sum-take (seatBack (t .options) (start .args .bank)) (t .seats) (at .loop .seat) noSeat (omega arith)) (omega arith), omega arith)
+    (omega arith, rw (add-one, sum-take (seatBack (t .options) (start .args .bank)) (t .seats) (at .loop .seat) missingSeat (omega arith)) (omega arith), omega arith)
 
 returns : tie.Need-returns Inv-loop μ-loop
 returns c =

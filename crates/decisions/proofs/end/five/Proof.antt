@@ -1,7 +1,7 @@
 -- The list that even and five share, read with this code, is the call's.
 use borrow.Author.Needs.{needs}
 use Rattle.decision_spec.specs.Five.{fiveConditions}
-use Rattle.decisions.specs.Leave.{leaveConditions}
+use Rattle.decisions.specs.Aids.Leave.{leaveConditions}
 use Rattle.decisions.proofs.end.five.Statement.{statement}
 use Rattle.decisions.proofs.end.five.Tie as tie
 

@@ -3,7 +3,7 @@ use mathlib.Core.Path.{_≡_, sym, _∙_}
 use borrow.Author.Needs.{needs}
 use lib.ListN.{length, length-map}
 use Rattle.decision_spec.specs.Turn.{endEffect}
-use Rattle.decisions.specs.Leave.{leaveConditions}
+use Rattle.decisions.specs.Aids.Leave.{leaveConditions}
 use Rattle.decisions.proofs.ended.Laws.{answered}
 use Rattle.decisions.proofs.end.Laws.{leave-in-turn}
 use Rattle.decisions.proofs.end.leave.Statement.{statement}

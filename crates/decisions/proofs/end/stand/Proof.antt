@@ -3,7 +3,7 @@ use mathlib.Core.Path.{_≡_, sym, _∙_}
 use borrow.Author.Needs.{needs}
 use lib.ListN.{length, length-map}
 use Rattle.decision_spec.specs.Stand.{standConditions, standEffect}
-use Rattle.decisions.proofs.in_turn.InTurn.{in-turn-alone}
+use Rattle.decisions.proofs.turn.InTurn.{in-turn-alone}
 use Rattle.decisions.proofs.ended.Laws.{answered}
 use Rattle.decisions.proofs.end.stand.Statement.{statement}
 use Rattle.decisions.proofs.end.stand.Tie as tie

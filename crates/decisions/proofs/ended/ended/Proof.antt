@@ -3,7 +3,7 @@ use mathlib.Core.Path.{_∙_, ap}
 use borrow.Author.Needs.{needs}
 use Rattle.table.specs.Table.{withSeat}
 use Rattle.decision_spec.specs.Turn.{endEffect}
-use Rattle.decisions.proofs.in_turn.InTurn.{read-waits}
+use Rattle.decisions.proofs.turn.InTurn.{read-waits}
 use Rattle.decisions.proofs.ended.Laws.{same-ended}
 use Rattle.decisions.proofs.ended.ended.Statement.{statement}
 use Rattle.decisions.proofs.ended.ended.Tie as tie
@@ -11,8 +11,8 @@ use Rattle.decisions.proofs.ended.ended.Tie as tie
 cast-j : tie.Need-cast-j
 cast-j c = search needs
 
-seat-of-requires : tie.Need-seat-of-requires
-seat-of-requires c κs = c .before .before .pre .nine
+seat-at-requires : tie.Need-seat-at-requires
+seat-at-requires c κs = c .before .before .pre .nine
 
 up-requires : tie.Need-up-requires
 up-requires c κs = search needs
@@ -20,7 +20,7 @@ up-requires c κs = search needs
 ended-seat-requires : tie.Need-ended-seat-requires
 ended-seat-requires c κs =
     let start = c .before .before .before .before in
-    read-waits (start .args .t) (start .args .at .seat) _ _ (start .pre) (c .up .ensures) (c .before .seat-of .ensures)
+    read-waits (start .args .t) (start .args .at .seat) _ _ (start .pre) (c .up .ensures) (c .before .seat-at .ensures)
 
 with-seat-requires : tie.Need-with-seat-requires
 with-seat-requires c κs = search needs
@@ -32,7 +32,7 @@ returns c =
     let t = start .args .t in
     let j = start .args .at .seat in
     c .with-seat .ensures
-    ∙ ap (withSeat t j) (c .before .ended-seat .ensures ∙ same-ended (start .args .code) t j _ _ (c .before .before .up .ensures) (c .before .before .before .seat-of .ensures))
+    ∙ ap (withSeat t j) (c .before .ended-seat .ensures ∙ same-ended (start .args .code) t j _ _ (c .before .before .up .ensures) (c .before .before .before .seat-at .ensures))
 
 pub ended-spec : {M : Type 1} → statement M
-ended-spec = tie.close (tie.spec cast-j seat-of-requires up-requires ended-seat-requires with-seat-requires returns)
+ended-spec = tie.close (tie.spec cast-j seat-at-requires up-requires ended-seat-requires with-seat-requires returns)

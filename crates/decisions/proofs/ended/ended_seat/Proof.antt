@@ -12,8 +12,8 @@ use Rattle.decisions.proofs.ended.ended_seat.Tie as tie
 waiting-place-requires : tie.Need-waiting-place-requires
 waiting-place-requires c κs = search needs
 
-turn-hand-requires : tie.Need-turn-hand-requires
-turn-hand-requires c κs = c .before .before .pre
+waiting-hand-requires : tie.Need-waiting-hand-requires
+waiting-hand-requires c κs = c .before .before .pre
 
 with-place-requires : tie.Need-with-place-requires
 with-place-requires c κs = search needs
@@ -25,8 +25,8 @@ returns c =
     let code = start .args .code in
     let p = waitingPlace (start .args .o) (start .args .card) (hands s) in
     c .with-place .ensures
-    ∙ ap (λ (h : SeatHand). withPlace s (c .before .before .waiting-place .result) (endedBy h code)) (c .before .turn-hand .ensures)
+    ∙ ap (λ (h : SeatHand). withPlace s (c .before .before .waiting-place .result) (endedBy h code)) (c .before .waiting-hand .ensures)
     ∙ ap (λ (i : ℕ). withPlace s i (endedBy (placeOf s p) code)) (c .before .before .waiting-place .ensures)
 
 pub ended-seat-spec : {M : Type 1} → statement M
-ended-seat-spec = tie.close (tie.spec waiting-place-requires turn-hand-requires with-place-requires returns)
+ended-seat-spec = tie.close (tie.spec waiting-place-requires waiting-hand-requires with-place-requires returns)

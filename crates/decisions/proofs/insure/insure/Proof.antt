@@ -25,8 +25,8 @@ returns c =
 cast-j : tie.Need-cast-j
 cast-j c = search needs
 
-seat-of-requires : tie.Need-seat-of-requires
-seat-of-requires c κs =
+seat-at-requires : tie.Need-seat-at-requires
+seat-at-requires c κs =
     let start = c .before .before .before in
     insure-accepted (start .args .t) (start .args .at .seat) (start .args .n) (sym (c .before .before .insure-number .ensures) ∙ c .before .if1 .left) .0
 
@@ -35,8 +35,8 @@ insured-requires c κs =
     let start = c .before .before .before .before in
     let s = seatAt (start .args .t) (start .args .at .seat) in
     let facts = insure-accepted (start .args .t) (start .args .at .seat) (start .args .n) (sym (c .before .before .before .insure-number .ensures) ∙ c .before .before .if1 .left) in
-    let same-purse : purse (c .seat-of .result) ≡ purse s = ap purse (c .seat-of .ensures) in
-    let same-stake : stake (c .seat-of .result) ≡ stake s = ap stake (c .seat-of .ensures) in
+    let same-purse : purse (c .seat-at .result) ≡ purse s = ap purse (c .seat-at .ensures) in
+    let same-stake : stake (c .seat-at .result) ≡ stake s = ap stake (c .seat-at .ensures) in
     (omega (arith, facts .1), omega (arith, facts .2))
 
 with-seat-requires : tie.Need-with-seat-requires
@@ -50,7 +50,7 @@ returns-2 c =
     let j = start .args .at .seat in
     let n = start .args .n in
     let next : c .before .insured .result ≡ makeSeat (money (purse (seatAt t j) - n) (stake (seatAt t j)) n) (seatAt t j .hands)
-    = c .before .insured .ensures ∙ ap (λ (s : Seat). makeSeat (money (purse s - n) (stake s) n) (s .hands)) (c .before .before .seat-of .ensures) in
+    = c .before .insured .ensures ∙ ap (λ (s : Seat). makeSeat (money (purse s - n) (stake s) n) (s .hands)) (c .before .before .seat-at .ensures) in
     accepted (insureConditions t j n) (insureEffect t j n) t _ _ (c .before .before .before .before .before .insure-number .ensures) (c .before .before .before .before .if1 .left)
     (c .with-seat .ensures ∙ ap (withSeat t j) next)
 
@@ -61,7 +61,7 @@ insure-spec =
     insure-number-requires
     returns
     cast-j
-    seat-of-requires
+    seat-at-requires
     insured-requires
     with-seat-requires
     returns-2)

@@ -8,7 +8,7 @@ use borrow.Author.Tests.{lt-ltb, le-ltb, eq-eqb, ne-eqb}
 use Rattle.call.proofs.Refusals.{first-before, first-here, first-next, first-last}
 use Rattle.table.specs.declared.Seat.{Seat}
 use Rattle.table.specs.Seat.{purse, stake, insurance, isStaked}
-use Rattle.table.specs.Broken.{insurancePermitted}
+use Rattle.options.specs.Permitted.{insurancePermitted}
 use Rattle.cards.specs.Card.{isAce}
 use Rattle.decision_spec.specs.Round.{roundConditions}
 use Rattle.decision_spec.specs.Insure.{insureConditions}
@@ -28,11 +28,11 @@ returns c =
     let start = c .before .before .before in
     sym (first-before (roundConditions (start .args .t) (start .args .at .seat)) _ _ (sym (c .before .round-number .ensures)) (c .if1 .taken))
 
-cast-seat-of : tie.Need-cast-seat-of
-cast-seat-of c = search needs
+cast-seat-at : tie.Need-cast-seat-at
+cast-seat-at c = search needs
 
-seat-of-requires : tie.Need-seat-of-requires
-seat-of-requires c κs =
+seat-at-requires : tie.Need-seat-at-requires
+seat-at-requires c κs =
     let round = c .before .before in
     let start = round .before .before .before in
     round-seat (start .args .t) (start .args .at .seat) (sym (round .before .round-number .ensures) ∙ round .if1 .left)
@@ -44,7 +44,7 @@ returns-2 c =
     let round = seated .before .before .before in
     let start = round .before .before .before in
     sym (round-behind (start .args .t) (start .args .at .seat) (sym (round .before .round-number .ensures) ∙ round .if1 .left) _
-    ∙ first-here _ _ _ (ap (λ (s : Seat). ltb 0 (insurance s)) (sym (seated .seat-of .ensures)) ∙ lt-ltb _ _ (c .if2 .taken)))
+    ∙ first-here _ _ _ (ap (λ (s : Seat). ltb 0 (insurance s)) (sym (seated .seat-at .ensures)) ∙ lt-ltb _ _ (c .if2 .taken)))
 
 returns-3 : tie.Need-returns-3
 unfolding insureConditions
@@ -53,8 +53,8 @@ returns-3 c =
     let round = seated .before .before .before in
     let start = round .before .before .before in
     sym (round-behind (start .args .t) (start .args .at .seat) (sym (round .before .round-number .ensures) ∙ round .if1 .left) _
-    ∙ first-next _ _ _ (ap (λ (s : Seat). ltb 0 (insurance s)) (sym (seated .seat-of .ensures)) ∙ le-ltb _ _ (c .before .before .if2 .left))
-    ∙ first-here _ _ _ (ap (λ (s : Seat). not (isStaked s)) (sym (seated .seat-of .ensures)) ∙ c .if3 .taken))
+    ∙ first-next _ _ _ (ap (λ (s : Seat). ltb 0 (insurance s)) (sym (seated .seat-at .ensures)) ∙ le-ltb _ _ (c .before .before .if2 .left))
+    ∙ first-here _ _ _ (ap (λ (s : Seat). not (isStaked s)) (sym (seated .seat-at .ensures)) ∙ c .if3 .taken))
 
 any-decided-requires : tie.Need-any-decided-requires
 any-decided-requires c κs = search needs
@@ -66,8 +66,8 @@ returns-4 c =
     let round = seated .before .before .before in
     let start = round .before .before .before in
     sym (round-behind (start .args .t) (start .args .at .seat) (sym (round .before .round-number .ensures) ∙ round .if1 .left) _
-    ∙ first-next _ _ _ (ap (λ (s : Seat). ltb 0 (insurance s)) (sym (seated .seat-of .ensures)) ∙ le-ltb _ _ (c .before .before .before .before .if2 .left))
-    ∙ first-next _ _ _ (ap (λ (s : Seat). not (isStaked s)) (sym (seated .seat-of .ensures)) ∙ c .before .before .if3 .left)
+    ∙ first-next _ _ _ (ap (λ (s : Seat). ltb 0 (insurance s)) (sym (seated .seat-at .ensures)) ∙ le-ltb _ _ (c .before .before .before .before .if2 .left))
+    ∙ first-next _ _ _ (ap (λ (s : Seat). not (isStaked s)) (sym (seated .seat-at .ensures)) ∙ c .before .before .if3 .left)
     ∙ first-here _ _ _ (sym (c .before .any-decided .ensures) ∙ c .if4 .taken))
 
 up-requires : tie.Need-up-requires
@@ -83,8 +83,8 @@ returns-5 c =
     let round = seated .before .before .before in
     let start = round .before .before .before in
     sym (round-behind (start .args .t) (start .args .at .seat) (sym (round .before .round-number .ensures) ∙ round .if1 .left) _
-    ∙ first-next _ _ _ (ap (λ (s : Seat). ltb 0 (insurance s)) (sym (seated .seat-of .ensures)) ∙ le-ltb _ _ (c .before .before .before .before .before .before .before .if2 .left))
-    ∙ first-next _ _ _ (ap (λ (s : Seat). not (isStaked s)) (sym (seated .seat-of .ensures)) ∙ c .before .before .before .before .before .if3 .left)
+    ∙ first-next _ _ _ (ap (λ (s : Seat). ltb 0 (insurance s)) (sym (seated .seat-at .ensures)) ∙ le-ltb _ _ (c .before .before .before .before .before .before .before .if2 .left))
+    ∙ first-next _ _ _ (ap (λ (s : Seat). not (isStaked s)) (sym (seated .seat-at .ensures)) ∙ c .before .before .before .before .before .if3 .left)
     ∙ first-next _ _ _ (sym (c .before .before .before .before .any-decided .ensures) ∙ c .before .before .before .if4 .left)
     ∙ first-here _ _ _ (ap (λ (card : ℕ). not (isAce card)) (sym (c .before .before .up .ensures)) ∙ ap not (sym (c .before .is-ace .ensures)) ∙ c .if5 .taken))
 
@@ -95,8 +95,8 @@ returns-6 c =
     let round = seated .before .before .before in
     let start = round .before .before .before in
     sym (round-behind (start .args .t) (start .args .at .seat) (sym (round .before .round-number .ensures) ∙ round .if1 .left) _
-    ∙ first-next _ _ _ (ap (λ (s : Seat). ltb 0 (insurance s)) (sym (seated .seat-of .ensures)) ∙ le-ltb _ _ (c .before .before .before .before .before .before .before .before .if2 .left))
-    ∙ first-next _ _ _ (ap (λ (s : Seat). not (isStaked s)) (sym (seated .seat-of .ensures)) ∙ c .before .before .before .before .before .before .if3 .left)
+    ∙ first-next _ _ _ (ap (λ (s : Seat). ltb 0 (insurance s)) (sym (seated .seat-at .ensures)) ∙ le-ltb _ _ (c .before .before .before .before .before .before .before .before .if2 .left))
+    ∙ first-next _ _ _ (ap (λ (s : Seat). not (isStaked s)) (sym (seated .seat-at .ensures)) ∙ c .before .before .before .before .before .before .if3 .left)
     ∙ first-next _ _ _ (sym (c .before .before .before .before .before .any-decided .ensures) ∙ c .before .before .before .before .if4 .left)
     ∙ first-next _ _ _ (ap (λ (card : ℕ). not (isAce card)) (sym (c .before .before .before .up .ensures)) ∙ ap not (sym (c .before .before .is-ace .ensures)) ∙ c .before .if5 .left)
     ∙ first-here _ _ _ (eq-eqb _ _ (c .if6 .taken)))
@@ -111,12 +111,12 @@ returns-7 c =
     let round = seated .before .before .before in
     let start = round .before .before .before in
     sym (round-behind (start .args .t) (start .args .at .seat) (sym (round .before .round-number .ensures) ∙ round .if1 .left) _
-    ∙ first-next _ _ _ (ap (λ (s : Seat). ltb 0 (insurance s)) (sym (seated .seat-of .ensures)) ∙ le-ltb _ _ (c .before .before .before .before .before .before .before .before .before .before .if2 .left))
-    ∙ first-next _ _ _ (ap (λ (s : Seat). not (isStaked s)) (sym (seated .seat-of .ensures)) ∙ c .before .before .before .before .before .before .before .before .if3 .left)
+    ∙ first-next _ _ _ (ap (λ (s : Seat). ltb 0 (insurance s)) (sym (seated .seat-at .ensures)) ∙ le-ltb _ _ (c .before .before .before .before .before .before .before .before .before .before .if2 .left))
+    ∙ first-next _ _ _ (ap (λ (s : Seat). not (isStaked s)) (sym (seated .seat-at .ensures)) ∙ c .before .before .before .before .before .before .before .before .if3 .left)
     ∙ first-next _ _ _ (sym (c .before .before .before .before .before .before .before .any-decided .ensures) ∙ c .before .before .before .before .before .before .if4 .left)
     ∙ first-next _ _ _ (ap (λ (card : ℕ). not (isAce card)) (sym (c .before .before .before .before .before .up .ensures)) ∙ ap not (sym (c .before .before .before .before .is-ace .ensures)) ∙ c .before .before .before .if5 .left)
     ∙ first-next _ _ _ (ne-eqb _ _ (c .before .before .if6 .left))
-    ∙ first-here _ _ _ (ap (λ (s : Seat). not (insurancePermitted (start .args .t .options) (stake s) (start .args .n))) (sym (seated .seat-of .ensures)) ∙ ap not (sym (c .before .insurance-permitted .ensures)) ∙ c .if7 .taken))
+    ∙ first-here _ _ _ (ap (λ (s : Seat). not (insurancePermitted (start .args .t .options) (stake s) (start .args .n))) (sym (seated .seat-at .ensures)) ∙ ap not (sym (c .before .insurance-permitted .ensures)) ∙ c .if7 .taken))
 
 returns-8 : tie.Need-returns-8
 unfolding insureConditions
@@ -125,13 +125,13 @@ returns-8 c =
     let round = seated .before .before .before in
     let start = round .before .before .before in
     sym (round-behind (start .args .t) (start .args .at .seat) (sym (round .before .round-number .ensures) ∙ round .if1 .left) _
-    ∙ first-next _ _ _ (ap (λ (s : Seat). ltb 0 (insurance s)) (sym (seated .seat-of .ensures)) ∙ le-ltb _ _ (c .before .before .before .before .before .before .before .before .before .before .before .before .if2 .left))
-    ∙ first-next _ _ _ (ap (λ (s : Seat). not (isStaked s)) (sym (seated .seat-of .ensures)) ∙ c .before .before .before .before .before .before .before .before .before .before .if3 .left)
+    ∙ first-next _ _ _ (ap (λ (s : Seat). ltb 0 (insurance s)) (sym (seated .seat-at .ensures)) ∙ le-ltb _ _ (c .before .before .before .before .before .before .before .before .before .before .before .before .if2 .left))
+    ∙ first-next _ _ _ (ap (λ (s : Seat). not (isStaked s)) (sym (seated .seat-at .ensures)) ∙ c .before .before .before .before .before .before .before .before .before .before .if3 .left)
     ∙ first-next _ _ _ (sym (c .before .before .before .before .before .before .before .before .before .any-decided .ensures) ∙ c .before .before .before .before .before .before .before .before .if4 .left)
     ∙ first-next _ _ _ (ap (λ (card : ℕ). not (isAce card)) (sym (c .before .before .before .before .before .before .before .up .ensures)) ∙ ap not (sym (c .before .before .before .before .before .before .is-ace .ensures)) ∙ c .before .before .before .before .before .if5 .left)
     ∙ first-next _ _ _ (ne-eqb _ _ (c .before .before .before .before .if6 .left))
-    ∙ first-next _ _ _ (ap (λ (s : Seat). not (insurancePermitted (start .args .t .options) (stake s) (start .args .n))) (sym (seated .seat-of .ensures)) ∙ ap not (sym (c .before .before .before .insurance-permitted .ensures)) ∙ c .before .before .if7 .left)
-    ∙ first-here _ _ _ (ap (λ (s : Seat). ltb (purse s) (start .args .n)) (sym (seated .seat-of .ensures)) ∙ lt-ltb _ _ (c .if8 .taken)))
+    ∙ first-next _ _ _ (ap (λ (s : Seat). not (insurancePermitted (start .args .t .options) (stake s) (start .args .n))) (sym (seated .seat-at .ensures)) ∙ ap not (sym (c .before .before .before .insurance-permitted .ensures)) ∙ c .before .before .if7 .left)
+    ∙ first-here _ _ _ (ap (λ (s : Seat). ltb (purse s) (start .args .n)) (sym (seated .seat-at .ensures)) ∙ lt-ltb _ _ (c .if8 .taken)))
 
 returns-9 : tie.Need-returns-9
 unfolding insureConditions
@@ -140,13 +140,13 @@ returns-9 c =
     let round = seated .before .before .before in
     let start = round .before .before .before in
     sym (round-behind (start .args .t) (start .args .at .seat) (sym (round .before .round-number .ensures) ∙ round .if1 .left) _
-    ∙ first-next _ _ _ (ap (λ (s : Seat). ltb 0 (insurance s)) (sym (seated .seat-of .ensures)) ∙ le-ltb _ _ (c .before .before .before .before .before .before .before .before .before .before .before .before .if2 .left))
-    ∙ first-next _ _ _ (ap (λ (s : Seat). not (isStaked s)) (sym (seated .seat-of .ensures)) ∙ c .before .before .before .before .before .before .before .before .before .before .if3 .left)
+    ∙ first-next _ _ _ (ap (λ (s : Seat). ltb 0 (insurance s)) (sym (seated .seat-at .ensures)) ∙ le-ltb _ _ (c .before .before .before .before .before .before .before .before .before .before .before .before .if2 .left))
+    ∙ first-next _ _ _ (ap (λ (s : Seat). not (isStaked s)) (sym (seated .seat-at .ensures)) ∙ c .before .before .before .before .before .before .before .before .before .before .if3 .left)
     ∙ first-next _ _ _ (sym (c .before .before .before .before .before .before .before .before .before .any-decided .ensures) ∙ c .before .before .before .before .before .before .before .before .if4 .left)
     ∙ first-next _ _ _ (ap (λ (card : ℕ). not (isAce card)) (sym (c .before .before .before .before .before .before .before .up .ensures)) ∙ ap not (sym (c .before .before .before .before .before .before .is-ace .ensures)) ∙ c .before .before .before .before .before .if5 .left)
     ∙ first-next _ _ _ (ne-eqb _ _ (c .before .before .before .before .if6 .left))
-    ∙ first-next _ _ _ (ap (λ (s : Seat). not (insurancePermitted (start .args .t .options) (stake s) (start .args .n))) (sym (seated .seat-of .ensures)) ∙ ap not (sym (c .before .before .before .insurance-permitted .ensures)) ∙ c .before .before .if7 .left)
-    ∙ first-last _ _ (ap (λ (s : Seat). ltb (purse s) (start .args .n)) (sym (seated .seat-of .ensures)) ∙ le-ltb _ _ (c .if8 .left)))
+    ∙ first-next _ _ _ (ap (λ (s : Seat). not (insurancePermitted (start .args .t .options) (stake s) (start .args .n))) (sym (seated .seat-at .ensures)) ∙ ap not (sym (c .before .before .before .insurance-permitted .ensures)) ∙ c .before .before .if7 .left)
+    ∙ first-last _ _ (ap (λ (s : Seat). ltb (purse s) (start .args .n)) (sym (seated .seat-at .ensures)) ∙ le-ltb _ _ (c .if8 .left)))
 
 pub insure-number-spec : {M : Type 1} → statement M
 insure-number-spec =
@@ -155,8 +155,8 @@ insure-number-spec =
     broken-requires
     round-number-requires
     returns
-    cast-seat-of
-    seat-of-requires
+    cast-seat-at
+    seat-at-requires
     returns-2
     returns-3
     any-decided-requires

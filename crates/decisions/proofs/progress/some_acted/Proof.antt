@@ -10,8 +10,8 @@ use lib.Seq.{take-all}
 use Rattle.lists.specs.Tests.{any}
 use Rattle.lists.proofs.Tests.{any-at}
 use Rattle.table.specs.Table.{seatsHands}
-use Rattle.state.proofs.turns.Hands.{hands-of, nine-seats, seat-passed}
-use Rattle.decisions.specs.Acted.{acted}
+use Rattle.state.proofs.turn.Hands.{hands-of, nine-seats, seat-passed}
+use Rattle.decisions.specs.Aids.Acted.{acted}
 use Rattle.decisions.proofs.progress.some_acted.Statement.{statement}
 use Rattle.decisions.proofs.progress.some_acted.Tie as tie
 

@@ -26,11 +26,11 @@ returns c =
 up-requires : tie.Need-up-requires
 up-requires c κs = search needs
 
-cast-seat-of : tie.Need-cast-seat-of
-cast-seat-of c = search needs
+cast-seat-at : tie.Need-cast-seat-at
+cast-seat-at c = search needs
 
-seat-of-requires : tie.Need-seat-of-requires
-seat-of-requires c κs =
+seat-at-requires : tie.Need-seat-at-requires
+seat-at-requires c κs =
     let start = c .before .before .before .before .before .before in
     round-seat (start .args .t) (start .args .at .seat) (sym (c .before .before .before .before .round-number .ensures) ∙ c .before .before .before .if1 .left)
 
@@ -39,7 +39,7 @@ returns-2 c =
     let read = c .before .before .before .before in
     let start = read .before .before .before .before .before .before .before in
     let round = sym (read .before .before .before .before .before .round-number .ensures) ∙ read .before .before .before .before .if1 .left in
-    asked (start .args .t) (start .args .at .seat) _ _ (read .before .before .up .ensures) (read .seat-of .ensures) round
+    asked (start .args .t) (start .args .at .seat) _ _ (read .before .before .up .ensures) (read .seat-at .ensures) round
     false _ _ _ (not-true _ (c .if2 .taken)) refl refl refl
 
 any-drew-requires : tie.Need-any-drew-requires
@@ -50,7 +50,7 @@ returns-3 c =
     let read = c .before .before .before .before .before .before in
     let start = read .before .before .before .before .before .before .before in
     let round = sym (read .before .before .before .before .before .round-number .ensures) ∙ read .before .before .before .before .if1 .left in
-    asked (start .args .t) (start .args .at .seat) _ _ (read .before .before .up .ensures) (read .seat-of .ensures) round
+    asked (start .args .t) (start .args .at .seat) _ _ (read .before .before .up .ensures) (read .seat-at .ensures) round
     true true _ _ (not-false _ (c .before .before .if2 .left)) (sym (c .before .any-drew .ensures) ∙ c .if3 .taken) refl refl
 
 seat-waits-requires : tie.Need-seat-waits-requires
@@ -61,7 +61,7 @@ returns-4 c =
     let read = c .before .before .before .before .before .before .before .before in
     let start = read .before .before .before .before .before .before .before in
     let round = sym (read .before .before .before .before .before .round-number .ensures) ∙ read .before .before .before .before .if1 .left in
-    asked (start .args .t) (start .args .at .seat) _ _ (read .before .before .up .ensures) (read .seat-of .ensures) round
+    asked (start .args .t) (start .args .at .seat) _ _ (read .before .before .up .ensures) (read .seat-at .ensures) round
     true false false _ (not-false _ (c .before .before .before .before .if2 .left)) (sym (c .before .before .before .any-drew .ensures) ∙ c .before .before .if3 .left)
     (sym (c .before .seat-waits .ensures) ∙ not-true _ (c .if4 .taken)) refl
 
@@ -73,7 +73,7 @@ returns-5 c =
     let read = c .before .before .before .before .before .before .before .before .before .before in
     let start = read .before .before .before .before .before .before .before in
     let round = sym (read .before .before .before .before .before .round-number .ensures) ∙ read .before .before .before .before .if1 .left in
-    asked (start .args .t) (start .args .at .seat) _ _ (read .before .before .up .ensures) (read .seat-of .ensures) round
+    asked (start .args .t) (start .args .at .seat) _ _ (read .before .before .up .ensures) (read .seat-at .ensures) round
     true false true true (not-false _ (c .before .before .before .before .before .before .if2 .left)) (sym (c .before .before .before .before .before .any-drew .ensures) ∙ c .before .before .before .before .if3 .left) (sym (c .before .before .before .seat-waits .ensures) ∙ not-false _ (c .before .before .if4 .left))
     (sym (c .before .is-ace .ensures) ∙ c .if5 .taken)
 
@@ -82,7 +82,7 @@ returns-6 c =
     let read = c .before .before .before .before .before .before .before .before .before .before in
     let start = read .before .before .before .before .before .before .before in
     let round = sym (read .before .before .before .before .before .round-number .ensures) ∙ read .before .before .before .before .if1 .left in
-    asked (start .args .t) (start .args .at .seat) _ _ (read .before .before .up .ensures) (read .seat-of .ensures) round
+    asked (start .args .t) (start .args .at .seat) _ _ (read .before .before .up .ensures) (read .seat-at .ensures) round
     true false true false (not-false _ (c .before .before .before .before .before .before .if2 .left)) (sym (c .before .before .before .before .before .any-drew .ensures) ∙ c .before .before .before .before .if3 .left) (sym (c .before .before .before .seat-waits .ensures) ∙ not-false _ (c .before .before .if4 .left))
     (sym (c .before .is-ace .ensures) ∙ c .if5 .left)
 
@@ -94,8 +94,8 @@ surrender-number-spec =
     round-number-requires
     returns
     up-requires
-    cast-seat-of
-    seat-of-requires
+    cast-seat-at
+    seat-at-requires
     returns-2
     any-drew-requires
     returns-3

@@ -12,8 +12,8 @@ use Rattle.decisions.proofs.surrender.surrendered.Tie as tie
 cast-j : tie.Need-cast-j
 cast-j c = search needs
 
-seat-of-requires : tie.Need-seat-of-requires
-seat-of-requires c κs = search needs
+seat-at-requires : tie.Need-seat-at-requires
+seat-at-requires c κs = search needs
 
 surrendered-seat-requires : tie.Need-surrendered-seat-requires
 surrendered-seat-requires c κs = search needs
@@ -27,7 +27,7 @@ returns c =
     let start = c .before .before .before .before in
     c .with-seat .ensures
     ∙ ap (withSeat (start .args .t) (start .args .at .seat))
-    (c .before .surrendered-seat .ensures ∙ ap (λ (s : Seat). withPlace s 0 (endedBy (placeOf s 0) bySurrender)) (c .before .before .seat-of .ensures))
+    (c .before .surrendered-seat .ensures ∙ ap (λ (s : Seat). withPlace s 0 (endedBy (placeOf s 0) bySurrender)) (c .before .before .seat-at .ensures))
 
 pub surrendered-spec : {M : Type 1} → statement M
-surrendered-spec = tie.close (tie.spec cast-j seat-of-requires surrendered-seat-requires with-seat-requires returns)
+surrendered-spec = tie.close (tie.spec cast-j seat-at-requires surrendered-seat-requires with-seat-requires returns)

@@ -3,7 +3,7 @@ use mathlib.Core.Path.{ap, sym, _∙_}
 use borrow.Author.Needs.{needs}
 use Rattle.table.specs.declared.Seat.{Seat}
 use Rattle.display.proofs.seat.Such.{none-if-broken, none-beyond, such, such-of-nine}
-use Rattle.display.specs.HandDisplayShown.{placeShown, handShown}
+use Rattle.display.specs.Hand.{placeShown, handShown}
 use Rattle.display.proofs.hand.shown_hand.Statement.{statement}
 use Rattle.display.proofs.hand.shown_hand.Tie as tie
 
@@ -29,8 +29,8 @@ returns-2 c =
     let start = left .before .before in
     rw (none-beyond (start .args .t) (start .args .seat) (sym (left .before .broken .ensures) ∙ left .if1 .left) (c .before .if2 .taken)) (c .no-hand2 .ensures)
 
-seat-of-requires : tie.Need-seat-of-requires
-seat-of-requires c κs =
+seat-at-requires : tie.Need-seat-at-requires
+seat-at-requires c κs =
     let left = c .before .before .before in
     let start = left .before .before in
     such-of-nine (start .args .t) (start .args .seat) (sym (left .before .broken .ensures) ∙ left .if1 .left) (c .if2 .left)
@@ -44,7 +44,7 @@ returns-3 c =
     let left = c .before .before .before .before .before in
     let start = left .before .before in
     rw (such (start .args .t) (start .args .seat) (sym (left .before .broken .ensures) ∙ left .if1 .left) (c .before .before .if2 .left))
-    (c .shown-place .ensures ∙ ap (λ (s : Seat). placeShown s (start .args .place)) (c .before .seat-of .ensures))
+    (c .shown-place .ensures ∙ ap (λ (s : Seat). placeShown s (start .args .place)) (c .before .seat-at .ensures))
 
 pub shown-hand-spec : {M : Type 1} → statement M
 shown-hand-spec =
@@ -55,6 +55,6 @@ shown-hand-spec =
     returns
     no-hand-requires-2
     returns-2
-    seat-of-requires
+    seat-at-requires
     shown-place-requires
     returns-3)

@@ -6,7 +6,7 @@ use borrow.Author.Tests.{le-leb, lt-leb}
 use lib.ListN.{length, length-map}
 use Rattle.rules.proofs.seat_hand.Places.{many-hands}
 use Rattle.table.specs.Seat.{hands}
-use Rattle.display.specs.HandDisplayShown.{placeShown}
+use Rattle.display.specs.Hand.{placeShown}
 use Rattle.display.proofs.hand.shown_place.Statement.{statement}
 use Rattle.display.proofs.hand.shown_place.Tie as tie
 

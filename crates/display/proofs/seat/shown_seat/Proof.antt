@@ -1,7 +1,7 @@
 -- The tests decide: nothing, or the values of that seat of the array.
 use mathlib.Core.Path.{ap, sym, _∙_}
 use borrow.Author.Needs.{needs}
-use Rattle.display.specs.SeatDisplayShown.{seatValues, seatShown}
+use Rattle.display.specs.Seat.{seatValues, seatShown}
 use Rattle.display.proofs.seat.Such.{none-if-broken, none-beyond, such, such-of-nine}
 use Rattle.display.proofs.seat.shown_seat.Statement.{statement}
 use Rattle.display.proofs.seat.shown_seat.Tie as tie
@@ -28,8 +28,8 @@ returns-2 c =
     let start = left .before .before in
     rw (none-beyond (start .args .t) (start .args .seat) (sym (left .before .broken .ensures) ∙ left .if1 .left) (c .before .if2 .taken)) (c .no-seat2 .ensures)
 
-seat-of-requires : tie.Need-seat-of-requires
-seat-of-requires c κs =
+seat-at-requires : tie.Need-seat-at-requires
+seat-at-requires c κs =
     let left = c .before .before .before in
     let start = left .before .before in
     such-of-nine (start .args .t) (start .args .seat) (sym (left .before .broken .ensures) ∙ left .if1 .left) (c .if2 .left)
@@ -43,7 +43,7 @@ returns-3 c =
     let left = c .before .before .before .before .before in
     let start = left .before .before in
     rw (such (start .args .t) (start .args .seat) (sym (left .before .broken .ensures) ∙ left .if1 .left) (c .before .before .if2 .left))
-    (c .seat-values .ensures ∙ ap (seatValues (start .args .t .options)) (c .before .seat-of .ensures))
+    (c .seat-values .ensures ∙ ap (seatValues (start .args .t .options)) (c .before .seat-at .ensures))
 
 pub shown-seat-spec : {M : Type 1} → statement M
 shown-seat-spec =
@@ -54,6 +54,6 @@ shown-seat-spec =
     returns
     no-seat-requires-2
     returns-2
-    seat-of-requires
+    seat-at-requires
     seat-values-requires
     returns-3)

@@ -1,7 +1,7 @@
 -- A double is the shared call with the code of a doubled hand.
 use borrow.Author.Needs.{needs}
 use Rattle.decision_spec.specs.Double.{doubleConditions}
-use Rattle.draw.specs.Grow.{growConditions}
+use Rattle.draw.specs.Aids.Grow.{growConditions}
 use Rattle.draw.proofs.draw.double.Statement.{statement}
 use Rattle.draw.proofs.draw.double.Tie as tie
 

@@ -5,7 +5,7 @@ use borrow.Author.Needs.{needs}
 use Rattle.table.specs.Table.{seatAt}
 use Rattle.answer.proofs.outcome.Laws.{refused, accepted}
 use Rattle.decision_spec.specs.Card.{cardEffect}
-use Rattle.draw.specs.Grow.{moreOf, growConditions}
+use Rattle.draw.specs.Aids.Grow.{moreOf, growConditions}
 use Rattle.draw.proofs.draw.Laws.{drawable}
 use Rattle.draw.proofs.draw.grow.Statement.{statement}
 use Rattle.draw.proofs.draw.grow.Tie as tie

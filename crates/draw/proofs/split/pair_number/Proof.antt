@@ -14,8 +14,8 @@ use Rattle.draw.proofs.split.Accepted.{pair-first}
 use Rattle.draw.proofs.split.pair_number.Statement.{statement}
 use Rattle.draw.proofs.split.pair_number.Tie as tie
 
-turn-hand-requires : tie.Need-turn-hand-requires
-turn-hand-requires c κs = c .before .before .pre
+waiting-hand-requires : tie.Need-waiting-hand-requires
+waiting-hand-requires c κs = c .before .before .pre
 
 is-pair-requires : tie.Need-is-pair-requires
 is-pair-requires c κs = search needs
@@ -25,7 +25,7 @@ returns c =
     let asked = c .before in
     let hand = asked .before .before in
     let start = hand .before .before .before in
-    let pair = ap (λ (h : SeatHand). isPair (cardsOf (h .hand))) (sym (hand .turn-hand .ensures)) ∙ sym (asked .is-pair .ensures) ∙ not-true _ (c .if1 .taken) in
+    let pair = ap (λ (h : SeatHand). isPair (cardsOf (h .hand))) (sym (hand .waiting-hand .ensures)) ∙ sym (asked .is-pair .ensures) ∙ not-true _ (c .if1 .taken) in
     pair-first (start .args .o) (start .args .card) (start .args .s) false _ _ pair refl refl
 
 cast-if2 : tie.Need-cast-if2
@@ -40,7 +40,7 @@ returns-2 c =
     let hand = asked .before .before in
     let start = hand .before .before .before in
     let s = start .args .s in
-    let pair = ap (λ (h : SeatHand). isPair (cardsOf (h .hand))) (sym (hand .turn-hand .ensures)) ∙ sym (asked .is-pair .ensures) ∙ not-false _ (c .before .before .before .if1 .left) in
+    let pair = ap (λ (h : SeatHand). isPair (cardsOf (h .hand))) (sym (hand .waiting-hand .ensures)) ∙ sym (asked .is-pair .ensures) ∙ not-false _ (c .before .before .before .if1 .left) in
     let full : length (s .hands .places) ≡ 4 = simp length-map at (start .good .1 .1 .0 .1 .1 .1 .0 .1 .1 .0 .1 .0 .1) in
     let many : length (hands s) ≡ c .before .used .result = many-hands (s .hands) full ∙ sym (c .before .used .ensures) in
     pair-first (start .args .o) (start .args .card) s true true _ pair (ap (leb (start .args .o .hands)) many ∙ le-leb _ _ (c .if2 .taken)) refl
@@ -55,7 +55,7 @@ returns-3 c =
     let hand = asked .before .before in
     let start = hand .before .before .before in
     let s = start .args .s in
-    let pair = ap (λ (h : SeatHand). isPair (cardsOf (h .hand))) (sym (hand .turn-hand .ensures)) ∙ sym (asked .is-pair .ensures) ∙ not-false _ (room .before .before .before .if1 .left) in
+    let pair = ap (λ (h : SeatHand). isPair (cardsOf (h .hand))) (sym (hand .waiting-hand .ensures)) ∙ sym (asked .is-pair .ensures) ∙ not-false _ (room .before .before .before .if1 .left) in
     let full : length (s .hands .places) ≡ 4 = simp length-map at (start .good .1 .1 .0 .1 .1 .1 .0 .1 .1 .0 .1 .0 .1) in
     let many : length (hands s) ≡ room .before .used .result = many-hands (s .hands) full ∙ sym (room .before .used .ensures) in
     pair-first (start .args .o) (start .args .card) s true false true pair (ap (leb (start .args .o .hands)) many ∙ lt-leb _ _ (room .if2 .left)) (lt-ltb _ _ (c .if3 .taken))
@@ -67,7 +67,7 @@ returns-4 c =
     let hand = asked .before .before in
     let start = hand .before .before .before in
     let s = start .args .s in
-    let pair = ap (λ (h : SeatHand). isPair (cardsOf (h .hand))) (sym (hand .turn-hand .ensures)) ∙ sym (asked .is-pair .ensures) ∙ not-false _ (room .before .before .before .if1 .left) in
+    let pair = ap (λ (h : SeatHand). isPair (cardsOf (h .hand))) (sym (hand .waiting-hand .ensures)) ∙ sym (asked .is-pair .ensures) ∙ not-false _ (room .before .before .before .if1 .left) in
     let full : length (s .hands .places) ≡ 4 = simp length-map at (start .good .1 .1 .0 .1 .1 .1 .0 .1 .1 .0 .1 .0 .1) in
     let many : length (hands s) ≡ room .before .used .result = many-hands (s .hands) full ∙ sym (room .before .used .ensures) in
     pair-first (start .args .o) (start .args .card) s true false false pair (ap (leb (start .args .o .hands)) many ∙ lt-leb _ _ (room .if2 .left)) (le-ltb _ _ (c .if3 .left))
@@ -76,7 +76,7 @@ pub pair-number-spec : {M : Type 1} → statement M
 pair-number-spec =
     tie.close
     (tie.spec
-    turn-hand-requires
+    waiting-hand-requires
     is-pair-requires
     returns
     cast-if2

@@ -9,7 +9,7 @@ use lib.ListN.{length, length-map}
 use Rattle.call.proofs.Refusals.{first-before}
 use Rattle.decision_spec.specs.Turn.{turnConditions}
 use Rattle.decision_spec.specs.Split.{splitConditions}
-use Rattle.decisions.proofs.in_turn.InTurn.{in-turn-alone, read-waits}
+use Rattle.decisions.proofs.turn.InTurn.{in-turn-alone, read-waits}
 use Rattle.draw.proofs.split.Accepted.{split-pair, split-cards}
 use Rattle.draw.proofs.split.split_number.Statement.{statement}
 use Rattle.draw.proofs.split.split_number.Tie as tie
@@ -23,11 +23,11 @@ returns c =
     let start = c .before .before in
     sym (first-before (turnConditions (start .args .t) (start .args .at .seat)) _ _ (sym (c .before .turn-number .ensures)) (c .if1 .taken))
 
-cast-seat-of : tie.Need-cast-seat-of
-cast-seat-of c = search needs
+cast-seat-at : tie.Need-cast-seat-at
+cast-seat-at c = search needs
 
-seat-of-requires : tie.Need-seat-of-requires
-seat-of-requires c κs =
+seat-at-requires : tie.Need-seat-at-requires
+seat-at-requires c κs =
     let start = c .before .before .before .before in
     let t = start .args .t in
     let full : length (t .seats) ≡ 9 = simp length-map at (start .good .0 .1 .1 .1 .1 .0 .1 .0 .1) in
@@ -43,14 +43,14 @@ pair-number-requires c κs =
     let j = start .args .at .seat in
     let full : length (t .seats) ≡ 9 = simp length-map at (start .good .0 .1 .1 .1 .1 .0 .1 .0 .1) in
     let turn = in-turn-alone t j full (sym (c .before .before .before .before .before .turn-number .ensures) ∙ c .before .before .before .before .if1 .left) in
-    read-waits t j _ _ turn (c .up .ensures) (c .before .seat-of .ensures)
+    read-waits t j _ _ turn (c .up .ensures) (c .before .seat-at .ensures)
 
 returns-2 : tie.Need-returns-2
 returns-2 c =
     let read = c .before .before in
     let start = read .before .before .before .before .before .before in
     let turn = sym (read .before .before .before .before .before .turn-number .ensures) ∙ read .before .before .before .before .if1 .left in
-    split-pair (start .args .t) (start .args .at .seat) _ _ (read .up .ensures) (read .before .seat-of .ensures) _ (c .before .pair-number .ensures) turn (c .if2 .taken)
+    split-pair (start .args .t) (start .args .at .seat) _ _ (read .up .ensures) (read .before .seat-at .ensures) _ (c .before .pair-number .ensures) turn (c .if2 .taken)
 
 cards-left-requires : tie.Need-cards-left-requires
 cards-left-requires c κs = search needs
@@ -61,7 +61,7 @@ returns-3 c =
     let read = asked .before .before in
     let start = read .before .before .before .before .before .before in
     let turn = sym (read .before .before .before .before .before .turn-number .ensures) ∙ read .before .before .before .before .if1 .left in
-    split-cards (start .args .t) (start .args .at .seat) _ _ (read .up .ensures) (read .before .seat-of .ensures) _ (asked .before .pair-number .ensures) turn true (asked .if2 .left)
+    split-cards (start .args .t) (start .args .at .seat) _ _ (read .up .ensures) (read .before .seat-at .ensures) _ (asked .before .pair-number .ensures) turn true (asked .if2 .left)
     (ap (λ (n : ℕ). ltb n 2) (sym (c .before .cards-left .ensures)) ∙ lt-ltb _ _ (c .if3 .taken))
 
 returns-4 : tie.Need-returns-4
@@ -70,7 +70,7 @@ returns-4 c =
     let read = asked .before .before in
     let start = read .before .before .before .before .before .before in
     let turn = sym (read .before .before .before .before .before .turn-number .ensures) ∙ read .before .before .before .before .if1 .left in
-    split-cards (start .args .t) (start .args .at .seat) _ _ (read .up .ensures) (read .before .seat-of .ensures) _ (asked .before .pair-number .ensures) turn false (asked .if2 .left)
+    split-cards (start .args .t) (start .args .at .seat) _ _ (read .up .ensures) (read .before .seat-at .ensures) _ (asked .before .pair-number .ensures) turn false (asked .if2 .left)
     (ap (λ (n : ℕ). ltb n 2) (sym (c .before .cards-left .ensures)) ∙ le-ltb _ _ (c .if3 .left))
 
 pub split-number-spec : {M : Type 1} → statement M
@@ -79,8 +79,8 @@ split-number-spec =
     (tie.spec
     turn-number-requires
     returns
-    cast-seat-of
-    seat-of-requires
+    cast-seat-at
+    seat-at-requires
     up-requires
     pair-number-requires
     returns-2

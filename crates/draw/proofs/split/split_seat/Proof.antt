@@ -3,7 +3,7 @@ use mathlib.Core.Path.{_≡_}
 use native.Mathlib.Omega.{arith}
 use borrow.Author.Needs.{needs}
 use lib.ListN.{length, length-map}
-use Rattle.decisions.proofs.in_turn.InTurn.{place-of-four}
+use Rattle.decisions.proofs.turn.InTurn.{place-of-four}
 use Rattle.draw.proofs.split.Effect.{same-kept, same-two}
 use Rattle.draw.proofs.split.split_seat.Statement.{statement}
 use Rattle.draw.proofs.split.split_seat.Tie as tie
@@ -11,8 +11,8 @@ use Rattle.draw.proofs.split.split_seat.Tie as tie
 waiting-place-requires : tie.Need-waiting-place-requires
 waiting-place-requires c κs = search needs
 
-turn-hand-requires : tie.Need-turn-hand-requires
-turn-hand-requires c κs = search needs
+waiting-hand-requires : tie.Need-waiting-hand-requires
+waiting-hand-requires c κs = search needs
 
 kept-card-requires : tie.Need-kept-card-requires
 kept-card-requires c κs = omega arith
@@ -52,18 +52,18 @@ returns c =
     let made = put .before in
     let hand = made .before .before .before .before .before in
     let start = hand .before .before .before .before .before in
-    let h = hand .turn-hand .result in
+    let h = hand .waiting-hand .result in
     let parent = same-kept h 0 _ _ _ (made .before .before .before .kept-card .ensures) (made .before .before .split-hand .ensures) in
     let new = same-kept h 1 _ _ _ (made .before .kept-card2 .ensures) (made .split-hand2 .ensures) in
     same-two (start .args .s) _ _ _ _ h _ _ _ (start .args .first) (start .args .second)
-    (c .with-purse .ensures) (put .split-places .ensures) parent new (hand .before .waiting-place .ensures) (hand .turn-hand .ensures)
+    (c .with-purse .ensures) (put .split-places .ensures) parent new (hand .before .waiting-place .ensures) (hand .waiting-hand .ensures)
 
 pub split-seat-spec : {M : Type 1} → statement M
 split-seat-spec =
     tie.close
     (tie.spec
     waiting-place-requires
-    turn-hand-requires
+    waiting-hand-requires
     kept-card-requires
     split-hand-requires
     kept-card-requires-2

@@ -13,8 +13,8 @@ whole c = simp length-map at (c .good .0 .1 .1 .1 .1 .1 .1 .0 .1 .1 .0 .1 .0 .1)
 cast-j : tie.Need-cast-j
 cast-j c = search needs
 
-seat-of-requires : tie.Need-seat-of-requires
-seat-of-requires c κs = c .before .before .pre .turn .nine
+seat-at-requires : tie.Need-seat-at-requires
+seat-at-requires c κs = c .before .before .pre .turn .nine
 
 up-requires : tie.Need-up-requires
 up-requires c κs = search needs
@@ -35,10 +35,10 @@ split-seat-requires : tie.Need-split-seat-requires
 split-seat-requires c κs =
     let read = c .before .before .before .before .before .before in
     let start = read .before .before .before .before in
-    read-pays (start .args .t) (start .args .at .seat) _ _ (read .up .ensures) (read .before .seat-of .ensures) (start .pre)
+    read-pays (start .args .t) (start .args .at .seat) _ _ (read .up .ensures) (read .before .seat-at .ensures) (start .pre)
 
-draw-cards-requires : tie.Need-draw-cards-requires
-draw-cards-requires c κs = c .before .before .before .before .before .before .before .before .before .before .before .pre .two-left
+with-drawn-requires : tie.Need-with-drawn-requires
+with-drawn-requires c κs = c .before .before .before .before .before .before .before .before .before .before .before .pre .two-left
 
 with-seat-requires : tie.Need-with-seat-requires
 with-seat-requires c κs = search needs
@@ -49,21 +49,21 @@ returns c =
     let start = read .before .before .before .before in
     let t = start .args .t in
     let j = start .args .at .seat in
-    let next = read-split t j _ _ (read .up .ensures) (read .before .seat-of .ensures) _ _ _ (c .before .before .split-seat .ensures) in
-    same-effect t j _ _ _ _ _ next (c .before .before .before .before .before .card-ahead .ensures) (c .before .before .before .card-ahead2 .ensures) (c .with-seat .ensures) (c .before .draw-cards .ensures)
+    let next = read-split t j _ _ (read .up .ensures) (read .before .seat-at .ensures) _ _ _ (c .before .before .split-seat .ensures) in
+    same-effect t j _ _ _ _ _ next (c .before .before .before .before .before .card-ahead .ensures) (c .before .before .before .card-ahead2 .ensures) (c .with-seat .ensures) (c .before .with-drawn .ensures)
 
 pub split-table-spec : {M : Type 1} → statement M
 split-table-spec =
     tie.close
     (tie.spec
     cast-j
-    seat-of-requires
+    seat-at-requires
     up-requires
     slice-aggregate-card-ahead
     card-ahead-requires
     slice-aggregate-card-ahead-2
     card-ahead-requires-2
     split-seat-requires
-    draw-cards-requires
+    with-drawn-requires
     with-seat-requires
     returns)

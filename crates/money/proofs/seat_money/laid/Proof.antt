@@ -6,7 +6,7 @@ use borrow.Author.Needs.{needs}
 use borrow.Author.Tests.{eq-eqb, ne-eqb}
 use lib.ListN.{length, length-map}
 use Rattle.payment.specs.Wager.{wager}
-use Rattle.payment.proofs.stake.Bounds.{wager-bounds}
+use Rattle.payment.proofs.Bounds.{wager-bounds}
 use Rattle.table.specs.Seat.{laid}
 use Rattle.money.proofs.seat_money.Hands.{no-hand, hands-most}
 use Rattle.money.proofs.seat_money.laid.Statement.{statement}

@@ -8,7 +8,7 @@ use Rattle.lists.specs.Sum.{sum}
 use Rattle.rules.specs.SeatHand.{playedOf, handsOf}
 use Rattle.rules.proofs.seat_hand.Places.{none}
 use Rattle.payment.specs.Prize.{prize}
-use Rattle.payment.proofs.stake.Bounds.{prize-most}
+use Rattle.payment.proofs.Bounds.{prize-most}
 use Rattle.table.specs.Seat.{prizes}
 use Rattle.money.proofs.seat_money.Hands.{next-hand, every-hand}
 use Rattle.money.proofs.seat_money.prizes.Statement.{statement}

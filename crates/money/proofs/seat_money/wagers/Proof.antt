@@ -8,7 +8,7 @@ use Rattle.lists.specs.Sum.{sum}
 use Rattle.rules.specs.SeatHand.{playedOf, handsOf}
 use Rattle.rules.proofs.seat_hand.Places.{none}
 use Rattle.payment.specs.Wager.{wager}
-use Rattle.payment.proofs.stake.Bounds.{wager-bounds}
+use Rattle.payment.proofs.Bounds.{wager-bounds}
 use Rattle.money.proofs.seat_money.Hands.{next-hand, every-hand}
 use Rattle.money.proofs.seat_money.wagers.Statement.{statement}
 use Rattle.money.proofs.seat_money.wagers.Tie as tie

@@ -6,15 +6,15 @@ use borrow.Author.Needs.{needs}
 use lib.ListN.{length, take, getD, length-map}
 use lib.Seq.{take-all}
 use Rattle.lists.specs.Sum.{sum}
-use Rattle.table.specs.Seat.{noSeat}
+use Rattle.table.specs.Seat.{missingSeat}
 use Rattle.money.specs.Sums.{sumsOver, seatSums}
-use Rattle.money.specs.Within.{Within}
+use Rattle.money.specs.SumsFit.{SumsFit}
 use Rattle.money.proofs.sums.Pass.{next-seat, within-more}
 use Rattle.money.proofs.sums.table_sums.Statement.{statement}
 use Rattle.money.proofs.sums.table_sums.Tie as tie
 
 abbrev Inv-loop : tie.InvT-loop
-Inv-loop o all₀ seats i₀ all i = (i ≤ 9) × (all ≡ sumsOver o (take i seats)) × Within i all
+Inv-loop o all₀ seats i₀ all i = (i ≤ 9) × (all ≡ sumsOver o (take i seats)) × SumsFit i all
 
 abbrev μ-loop : tie.MeasureT-loop
 μ-loop o all₀ seats i₀ all i = 9 - i
@@ -45,7 +45,7 @@ loop-again c =
     let t = start .args .t in
     let i = at .loop .i in
     let full : length (t .seats) ≡ 9 = simp length-map at (start .good .0 .1 .1 .1 .1 .0 .1 .0 .1) in
-    let one = seatSums (t .options) (getD (t .seats) i noSeat) in (
+    let one = seatSums (t .options) (getD (t .seats) i missingSeat) in (
       omega arith,
       c .with-seat-sums .ensures .0 ∙ next-seat (t .options) (t .seats) i (omega arith) (at .loop .all) one (at .loop .inv .1) refl,
       within-more i (at .loop .all) one (c .with-seat-sums .result) (at .loop .inv .2) (c .with-seat-sums .ensures .1) (c .with-seat-sums .ensures .0),

@@ -4,13 +4,13 @@ use native.Mathlib.Omega.{arith}
 use borrow.Author.Needs.{needs}
 use lib.ListN.{length, length-map}
 use Rattle.money.specs.Sums.{seatSums}
-use Rattle.money.specs.Within.{Within}
+use Rattle.money.specs.SumsFit.{SumsFit}
 use Rattle.money.proofs.sums.Pass.{seat-within}
 use Rattle.money.proofs.sums.with_seat_sums.Statement.{statement}
 use Rattle.money.proofs.sums.with_seat_sums.Tie as tie
 
 -- the sums of the seat alone
-within : (c : tie.Start) → Within 1 (seatSums (c .args .o) (c .args .s))
+within : (c : tie.Start) → SumsFit 1 (seatSums (c .args .o) (c .args .s))
 within c =
     let full : length (c .args .s .hands .places) ≡ 4 = simp length-map at (c .good .1 .1 .0 .1 .1 .1 .0 .1 .1 .0 .1 .0 .1) in
     seat-within (c .args .o) (c .args .s) full (omega arith) (omega arith)

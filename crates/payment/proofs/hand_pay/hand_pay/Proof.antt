@@ -8,7 +8,7 @@ use borrow.Author.Needs.{needs}
 use borrow.Author.Tests.{lt-ltb, le-ltb, ne-eqb}
 use Rattle.rules.specs.SeatHand.{playedOf}
 use Rattle.payment.specs.HandPay.{handBack}
-use Rattle.payment.proofs.stake.Bounds.{wager-bounds}
+use Rattle.payment.proofs.Bounds.{wager-bounds}
 use Rattle.payment.proofs.hand_pay.hand_pay.Statement.{statement}
 use Rattle.payment.proofs.hand_pay.hand_pay.Tie as tie
 

@@ -1,7 +1,7 @@
 -- The tests are the definition's, in its order.
 use borrow.Author.Tests.{not-true, not-false}
 use mathlib.Core.Path.{sym, _∙_}
-use Rattle.rules.specs.Open.{evenOpen}
+use Rattle.rules.specs.OpenCalls.{evenOpen}
 use borrow.Author.Needs.{needs}
 use Rattle.rules.proofs.open_calls.even_open.Statement.{statement}
 use Rattle.rules.proofs.open_calls.even_open.Tie as tie

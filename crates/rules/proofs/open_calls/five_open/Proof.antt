@@ -5,7 +5,7 @@ use native.Mathlib.Omega.{arith}
 use lib.ListN.{length}
 use borrow.Author.Tests.{eq-eqb, ne-eqb, le-leb, lt-leb}
 use Rattle.lists.proofs.Takes.{count-taken}
-use Rattle.rules.specs.Open.{fiveOpen}
+use Rattle.rules.specs.OpenCalls.{fiveOpen}
 use borrow.Author.Needs.{needs}
 use Rattle.rules.proofs.open_calls.five_open.Statement.{statement}
 use Rattle.rules.proofs.open_calls.five_open.Tie as tie

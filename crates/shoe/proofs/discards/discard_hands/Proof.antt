@@ -10,7 +10,7 @@ use Rattle.lists.specs.Flat.{flat}
 use Rattle.cards.specs.Hand.{cardsOf}
 use Rattle.rules.specs.SeatHand.{Played, handsOf}
 use Rattle.rules.proofs.seat_hand.Places.{many-hands}
-use Rattle.table.specs.Seat.{noPlace}
+use Rattle.table.specs.Seat.{missingPlace}
 use Rattle.table.specs.Shoe.{discard}
 use Rattle.shoe.proofs.discards.Discards.{discard-none, discard-more, room-more, hand-more, hand-fits}
 use Rattle.shoe.proofs.discards.discard_hands.Statement.{statement}
@@ -41,7 +41,7 @@ discard-hand-requires c κs =
     let s = at .before .before .args .t2 in
     let i = at .loop .place in
     let full : length (s .places) ≡ 4 = simp length-map at (at .before .before .good .1 .0 .1 .1 .0 .1 .0 .1) in
-    room-more (at .before .before .args .sh) (at .loop .next) (flat (λ h. h .cards) (take i (handsOf s))) (cardsOf (getD (s .places) i noPlace .hand)) (at .loop .inv .1)
+    room-more (at .before .before .args .sh) (at .loop .next) (flat (λ h. h .cards) (take i (handsOf s))) (cardsOf (getD (s .places) i missingPlace .hand)) (at .loop .inv .1)
     (omega (arith, hand-fits s full i (omega arith), at .before .before .pre))
 
 add-place : tie.Need-add-place Inv-loop μ-loop
@@ -56,7 +56,7 @@ loop-again c =
     let s = at .before .before .args .t2 in
     let i = at .loop .place in
     let full : length (s .places) ≡ 4 = simp length-map at (at .before .before .good .1 .0 .1 .1 .0 .1 .0 .1) in
-    (omega arith, c .discard-hand .ensures ∙ discard-more (at .before .before .args .sh) (at .loop .next) (flat (λ h. h .cards) (take i (handsOf s))) (cardsOf (getD (s .places) i noPlace .hand)) (at .loop .inv .1) _ (hand-more s full i (omega arith)))
+    (omega arith, c .discard-hand .ensures ∙ discard-more (at .before .before .args .sh) (at .loop .next) (flat (λ h. h .cards) (take i (handsOf s))) (cardsOf (getD (s .places) i missingPlace .hand)) (at .loop .inv .1) _ (hand-more s full i (omega arith)))
 
 returns : tie.Need-returns Inv-loop μ-loop
 returns c =

@@ -8,7 +8,7 @@ use lib.Seq.{take-all}
 use Rattle.lists.specs.Flat.{flat}
 use Rattle.lists.proofs.Flats.{flat-next, flat-fits}
 use Rattle.table.specs.declared.Seat.{Seat}
-use Rattle.table.specs.Seat.{noSeat, seatCards}
+use Rattle.table.specs.Seat.{missingSeat, seatCards}
 use Rattle.table.specs.Shoe.{discard}
 use Rattle.table.specs.Table.{seatAt}
 use Rattle.shoe.proofs.discards.Discards.{discard-none, discard-more, room-more}
@@ -39,7 +39,7 @@ discard-hands-requires c κs =
     let i = at .loop .i in
     let full : length (t .seats) ≡ 9 = simp length-map at (start .good .1 .0 .1 .1 .1 .1 .0 .1 .0 .1) in
     room-more (start .args .sh) (at .loop .next) (flat seatCards (take i (t .seats))) (seatCards (seatAt t i)) (at .loop .inv .1)
-    (omega (arith, flat-fits seatCards (t .seats) i noSeat (omega arith), start .pre))
+    (omega (arith, flat-fits seatCards (t .seats) i missingSeat (omega arith), start .pre))
 
 add-i : tie.Need-add-i Inv-loop μ-loop
 add-i c = omega arith
@@ -54,7 +54,7 @@ loop-again c =
     let t = start .args .t2 in
     let i = at .loop .i in
     let full : length (t .seats) ≡ 9 = simp length-map at (start .good .1 .0 .1 .1 .1 .1 .0 .1 .0 .1) in
-    (omega arith, c .discard-hands .ensures ∙ discard-more (start .args .sh) (at .loop .next) (flat seatCards (take i (t .seats))) (seatCards (seatAt t i)) (at .loop .inv .1) _ (sym (flat-next seatCards (t .seats) i noSeat (omega arith))))
+    (omega arith, c .discard-hands .ensures ∙ discard-more (start .args .sh) (at .loop .next) (flat seatCards (take i (t .seats))) (seatCards (seatAt t i)) (at .loop .inv .1) _ (sym (flat-next seatCards (t .seats) i missingSeat (omega arith))))
 
 returns : tie.Need-returns Inv-loop μ-loop
 returns c =

@@ -1,0 +1,47 @@
+-- A table agrees with a history: its views are the history's values, for every seat number without a bound.
+use mathlib.Core.Path.{_≡_}
+use mathlib.Core.List.{List}
+use Prim.Native.Nat.{ℕ, _+_}
+use lib.IntN.{pos}
+use Rattle.options.specs.declared.Options.{Options}
+use Rattle.table.specs.declared.Seat.{Seat}
+use Rattle.table.specs.declared.Table.{Table}
+use Rattle.table.specs.Seat.{purse, stake, insurance, hands, laid, prizes}
+use Rattle.table.specs.Shoe.{isFresh}
+use Rattle.table.specs.Table.{seatAt, bankCards, isDealt, tableOrder}
+use Rattle.table.specs.Money.{allMoney}
+use Rattle.table.specs.Shape.{Shaped}
+use Rattle.table.specs.Aids.Sound.{Sound}
+use Rattle.history.specs.Entry.{Entry}
+use Rattle.history.specs.Rounds.{isDealtRound, stakeIn, insuranceIn}
+use Rattle.history.specs.Cards.{Cards, cardsOfHistory}
+use Rattle.history.specs.Hands.{handsIn}
+use Rattle.history.specs.Money.{cameIn, wentOut, laidIn, prizesIn, purseOf}
+
+-- A seat, with the history's seat of number i.
+pub record SeatAgrees (o : Options) (opening : List ℕ) (es : List Entry) (i : ℕ) (s : Seat) : Type 0 where
+  pub stake-is : stake s ≡ stakeIn es i
+  pub insurance-is : insurance s ≡ insuranceIn es i
+  pub hands-are : hands s ≡ handsIn o opening es i
+  pub laid-is : laid s ≡ laidIn es i
+  pub prizes-are : prizes o s ≡ prizesIn o opening es i
+  pub purse-is : pos (purse s) ≡ purseOf o opening es i
+
+-- The shoe and the bank, with the history's cards.
+pub record CardsAgree (c : Cards) (t : Table) : Type 0 where
+  pub order : tableOrder t ≡ c .order
+  pub taken : t .shoe .drawn ≡ c .taken
+  pub fresh : isFresh (t .shoe) ≡ c .fresh
+  pub bank : bankCards t ≡ c .bank
+
+pub record Agrees (opening : List ℕ) (es : List Entry) (t : Table) : Type 0 where
+  pub cards : CardsAgree (cardsOfHistory (t .options) opening es) t
+  pub dealt : isDealt t ≡ isDealtRound es
+  pub seats : (i : ℕ) → SeatAgrees (t .options) opening es i (seatAt t i)
+  pub balance : allMoney t + wentOut es ≡ cameIn es
+
+-- What the theorem carries from call to call.
+pub record Good (opening : List ℕ) (es : List Entry) (t : Table) : Type 0 where
+  pub shaped : Shaped t
+  pub sound : Sound t
+  pub agrees : Agrees opening es t

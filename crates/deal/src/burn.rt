@@ -1,0 +1,51 @@
+// How many cards a deal burns and takes, and the burning itself: cards of the shoe onto the discards (document 01, "House options").
+ghost use mathlib.Core.Path.{_≡_};
+ghost use Prim.Native.Nat.{_+_, _*_, _≤_};
+ghost use lib.ListN.{take};
+ghost use Rattle.table.specs.Shoe.{leftOf, discard};
+ghost use Rattle.deal_spec.specs.Burn.{burnAtDeal};
+ghost use Rattle.deal_spec.specs.Deal.{dealTakes};
+use crate::pass::staked_seats;
+use options::Options;
+use shoe::card_ahead;
+use table::Shoe;
+use table::Table;
+
+// The first burn where nothing of the shoe is drawn, else the later burn. It is small also where the options are damaged.
+pub fn burn_at_deal(o: Options, sh: Shoe) -> usize
+    ensures same { λ r. ⌜ r ≡ burnAtDeal o sh ⌝ }
+    ensures few { λ r. ⌜ r ≤ 255 ⌝ }
+{
+    if sh.drawn == 0 {
+        if o.first == 1 {
+            return 1;
+        }
+        return o.decks as usize;
+    }
+    if o.later == 0 { 0 } else { 1 }
+}
+
+// How many cards the deal burns and takes: two for each staked seat and one for the bank.
+pub fn deal_takes(t: Table) -> usize
+    ensures { λ r. ⌜ r ≡ dealTakes t ⌝ }
+{
+    burn_at_deal(t.options, t.shoe) + 2 * staked_seats(t) + 1
+}
+
+// The next n cards of the order become discards. Public for the calls alone, which burn only cards that are left: so it asks that the order has them,
+// and for room.
+pub fn burn(sh: Shoe, decks: u8, n: usize) -> Shoe
+    requires { ⌜ (sh .drawn + n ≤ 52 * decks) × (52 * decks ≤ 416) × (sh .discarded + n ≤ 416) ⌝ }
+    ensures { λ r. ⌜ r ≡ discard sh (take n (leftOf decks sh)) ⌝ }
+{
+    let at = sh.discarded;
+    let order = sh.order;
+    let mut discards = sh.discards;
+    for i in 0usize..n {
+        discards[at + i] = card_ahead(&order[..], sh.drawn, i);
+    }
+    let mut next = sh;
+    next.discards = discards;
+    next.discarded = at + n;
+    next
+}

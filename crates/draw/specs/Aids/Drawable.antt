@@ -1,0 +1,14 @@
+-- What an accepted draw or double gives (document 01, draw and double): the seat's turn, `more` in its purse, a prize in the tray, a card in the shoe.
+use Prim.Native.Nat.{ℕ, _+_, _*_, _≤_}
+use Rattle.table.specs.declared.Table.{Table}
+use Rattle.table.specs.Seat.{purse, stake}
+use Rattle.table.specs.Table.{seatAt}
+use Rattle.table.specs.Money.{mostMoney}
+use Rattle.decisions.specs.Aids.InTurn.{InTurn}
+
+pub record Drawable (t : Table) (j more : ℕ) : Type 0 where
+  pub turn : InTurn t j
+  pub purse-has : more ≤ purse (seatAt t j)
+  pub tray-has : 3 * stake (seatAt t j) ≤ t .tray
+  pub purse-fits : purse (seatAt t j) + 3 * stake (seatAt t j) ≤ mostMoney
+  pub card-left : t .shoe .drawn + 1 ≤ 416

@@ -1,2 +1,0 @@
--- The place in the seat whose turn it is.
-pub mod Place

@@ -1,0 +1,71 @@
+-- What a table that is not broken gives, as facts: the tests of Broken.antt as orders and equations of numbers.
+use mathlib.Core.Path.{_≡_}
+use mathlib.Core.Bool.{Bool, true}
+use Prim.Native.Nat.{ℕ, _+_, _*_, _≤_, _<_}
+use lib.ListN.{length, getD}
+use Rattle.lists.specs.Sum.{count}
+use Rattle.cards.specs.Card.{isAce}
+use Rattle.cards.specs.Hand.{cardsOf}
+use Rattle.cards.specs.Length.{couldBePlayed}
+use Rattle.options.specs.declared.Options.{Options}
+use Rattle.options.specs.Ranges.{inRange}
+use Rattle.rules.specs.declared.seat_hand.SeatHand.{SeatHand}
+use Rattle.table.specs.declared.Seat.{Seat}
+use Rattle.table.specs.declared.Table.{Table}
+use Rattle.table.specs.Seat.{missingPlace, purse, stake, insurance, laid, prizes}
+use Rattle.table.specs.Shoe.{validOrder}
+use Rattle.table.specs.Table.{seatAt, isDealt, up, someStaked, tableOrder, tableDrawn}
+use Rattle.table.specs.Money.{mostMoney, allMoney, allPrizes, allCover}
+use Rattle.table.specs.Faces.{outCards}
+use Rattle.options.specs.Permitted.{stakePermitted, insurancePermitted}
+
+-- A hand in use.
+pub record SoundHand (h : SeatHand) : Type 0 where
+  pub two-cards : 2 ≤ h .hand .count
+  pub twenty-cards : h .hand .count ≤ 20
+  pub played : couldBePlayed (cardsOf (h .hand)) ≡ true
+  pub origin : h .origin ≤ 2
+  pub ended : h .ended ≤ 5
+
+-- An insurance that lies there.
+pub record Insured (o : Options) (dealt ace : Bool) (s : Seat) : Type 0 where
+  pub in-round : dealt ≡ true
+  pub ace-up : ace ≡ true
+  pub staked : 0 < stake s
+  pub permitted : insurancePermitted o (stake s) (insurance s) ≡ true
+
+-- A seat with hands.
+pub record Playing (o : Options) (dealt : Bool) (s : Seat) : Type 0 where
+  pub in-round : dealt ≡ true
+  pub staked : 0 < stake s
+  pub within : s .hands .many ≤ o .hands
+  pub each : (p : ℕ) → p < s .hands .many → p < length (s .hands .places) → SoundHand (getD (s .hands .places) p missingPlace)
+
+-- A seat that holds nothing.
+pub record HoldsNothing (s : Seat) : Type 0 where
+  pub no-purse : purse s ≡ 0
+  pub no-stake : stake s ≡ 0
+  pub no-insurance : insurance s ≡ 0
+  pub no-hands : s .hands .many ≡ 0
+
+-- The seat of number i; `dealt` is whether a round is dealt and `ace` whether the up card is one.
+pub record SoundSeat (o : Options) (dealt ace : Bool) (i : ℕ) (s : Seat) : Type 0 where
+  pub beyond : o .seats ≤ i → HoldsNothing s
+  pub stake-fits : 0 < stake s → stakePermitted o (stake s) ≡ true
+  pub insured : 0 < insurance s → Insured o dealt ace s
+  pub waiting : s .hands .many ≡ 0 → dealt ≡ true → stake s ≡ 0
+  pub playing : 0 < s .hands .many → Playing o dealt s
+  pub prizes-back : prizes o s ≤ purse s + laid s
+
+pub record Sound (t : Table) : Type 0 where
+  pub options : inRange (t .options) ≡ true
+  pub valid : validOrder (t .options .decks) (tableOrder t) ≡ true
+  pub drawn : t .shoe .drawn ≤ 52 * t .options .decks
+  pub discarded : t .shoe .discarded ≤ 416
+  pub faces : (b : ℕ) → b < 256 → count b (outCards t) ≡ count b (tableDrawn t)
+  pub number : length (outCards t) ≡ t .shoe .drawn
+  pub seats : (i : ℕ) → i < 9 → SoundSeat (t .options) (isDealt t) (isAce (up t)) i (seatAt t i)
+  pub bank : t .bank .count ≤ 1
+  pub round : isDealt t ≡ true → someStaked t ≡ true
+  pub money : allMoney t ≤ mostMoney
+  pub cover : isDealt t ≡ true → allCover t ≤ t .tray + allPrizes t
