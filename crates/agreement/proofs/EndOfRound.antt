@@ -1,16 +1,15 @@
 -- A call that ends a round, close or void, keeps the agreement: no seat has a stake, an insurance, a hand or a prize left, and what the call adds
 -- to a purse is given.
 use mathlib.Core.Path.{_≡_, refl, sym, _∙_, ap, subst}
-use mathlib.Core.Bool.{true, false, not, and-false}
+use mathlib.Core.Bool.{true, false, not}
 use mathlib.Core.List.{List, [], _∷_, map}
-use Prim.Native.Nat.{ℕ, _+_, _*_, _<_}
+use Prim.Native.Nat.{ℕ, _+_, _*_}
 use native.Mathlib.Omega.{arith}
 use lib.IntN.{pos}
 use lib.ListN.{take, getD}
-use Rattle.lists.specs.Tests.{all}
+use Rattle.lists.specs.Tests.{allOf}
 use Rattle.lists.proofs.Places.{view-map}
 use Rattle.lists.proofs.Differences.{Diff}
-use Rattle.lists.proofs.Tests.{cond-same}
 use Rattle.options.specs.declared.Options.{Options}
 use Rattle.table.specs.declared.Seat.{Seat}
 use Rattle.table.specs.declared.Shoe.{Shoe}
@@ -19,79 +18,55 @@ use Rattle.table.specs.Seat.{missingSeat, purse, stake, insurance, hands, laid,
 use Rattle.table.specs.Shoe.{isFresh}
 use Rattle.table.specs.Table.{seatAt}
 use Rattle.table.proofs.RoundEnd.{RoundEnd, cleared, roundEnded, cleared-laid, cleared-prizes, end-shaped, end-sound, end-money}
-use Rattle.history.specs.Entry.{Entry, isKind, isFill, isCredit, isBuy, isCash, isStake, isDeal, isInsure, isDraw, isDouble, isSplit, isEnd, isLoad}
+use Rattle.history.specs.Entry.{Entry, isKind, isFill, isCredit, isEnd, isLoad}
 use Rattle.history.specs.Rounds.{stakeIn, stakedBelow}
 use Rattle.history.specs.Cards.{Cards, makeCards, callTakes, bankAfter, cardsAfter, cardsOfHistory}
 use Rattle.history.specs.Hands.{handsAfter}
-use Rattle.history.specs.Money.{lays, wins, laidEver, prizesEver, prizeOf, bought, cashed, endsBrought, endBrings, purseOf}
+use Rattle.history.specs.Money.{laidEver, prizesEver, bought, cashed, endsBrought, endBrings, purseOf}
 use Rattle.agreement.specs.Aids.Agrees.{SeatAgrees, CardsAgree, Good}
 use Rattle.agreement.proofs.Purse.{purse-law}
-use Rattle.agreement.proofs.Quiet.{none-of}
+use Rattle.agreement.proofs.Quiet.{none-of-all, Quiet, lays-nothing, wins-nothing}
 
 -- a call that ends a round and does nothing that another kind does
 pub record Ends (e : Entry) : Type 0 where
+  pub quiet : Quiet e
   pub is-end : isEnd e ≡ true
-  pub no-deal : isDeal e ≡ false
   pub no-load : isLoad e ≡ false
   pub no-fill : isFill e ≡ false
   pub no-credit : isCredit e ≡ false
-  pub no-buy : isBuy e ≡ false
-  pub no-cash : isCash e ≡ false
-  pub no-stake : isStake e ≡ false
-  pub no-insure : isInsure e ≡ false
-  pub no-draw : isDraw e ≡ false
-  pub no-double : isDouble e ≡ false
-  pub no-split : isSplit e ≡ false
 
 -- the kinds that it is none of
 abbrev pub goingKinds : List ℕ
 goingKinds = 1 ∷ 2 ∷ 3 ∷ 4 ∷ 5 ∷ 6 ∷ 7 ∷ 9 ∷ 10 ∷ 11 ∷ 17 ∷ []
 
-pub ends : (e : Entry) → isEnd e ≡ true → all (λ k. not (isKind k e)) goingKinds ≡ true → Ends e
+pub ends : (e : Entry) → isEnd e ≡ true → allOf (λ k. not (isKind k e)) goingKinds ≡ true → Ends e
 ends e is-end h =
+    let (fill, (credit, (buy, (cash, (stake, (deal, (insure, (draw, (double, (split, (load, _))))))))))) = none-of-all e goingKinds h in
     record {
+      quiet = record { no-deal = deal; no-buy = buy; no-cash = cash; no-stake = stake; no-insure = insure; no-draw = draw; no-double = double; no-split = split };
       is-end = is-end;
-      no-deal = none 5 (omega arith);
-      no-load = none 10 (omega arith);
-      no-fill = none 0 (omega arith);
-      no-credit = none 1 (omega arith);
-      no-buy = none 2 (omega arith);
-      no-cash = none 3 (omega arith);
-      no-stake = none 4 (omega arith);
-      no-insure = none 6 (omega arith);
-      no-draw = none 7 (omega arith);
-      no-double = none 8 (omega arith);
-      no-split = none 9 (omega arith);
+      no-load = load;
+      no-fill = fill;
+      no-credit = credit;
     }
-  where
-    none : (i : ℕ) → i < 11 → isKind (getD goingKinds i 0) e ≡ false
-    none i l = none-of e goingKinds i h l
 
-module _ (o : Options) (opening : List ℕ) (es : List Entry) (i : ℕ) (e : Entry) (q : Ends e) where
-  lays-end : (S : ℕ) → lays i S e ≡ 0
-  unfolding lays
-  lays-end S = simp (q .no-stake, q .no-insure, q .no-double, q .no-split, cond-same)
-
-  prize-end : prizeOf o opening es i e ≡ 0
-  unfolding wins
-  prize-end = simp (q .no-draw, q .no-double, and-false)
-
+module _ (o : Options) (opening : List ℕ) (es : List Entry) (i : ℕ) (e : Entry) (h : Ends e) where
   -- the purse changes by what the ended round adds
   pub purse-end : (x next plus minus : ℕ) → Diff (endBrings o opening es i e) plus minus → pos x ≡ purseOf o opening es i → next + minus ≡ x + plus → pos next ≡ purseOf o opening (e ∷ es) i
-  purse-end x next plus minus d p h =
+  purse-end x next plus minus d p moved =
       purse-law x next (bought es i) (cashed es i) (laidEver es i) (prizesEver o opening es i) _ _ _ _ (endsBrought o opening es i) (endBrings o opening es i e) plus minus d p
-      (simp (q .no-buy, q .no-cash) (omega (arith, lays-end (stakeIn es i), prize-end)))
+      (simp (h .quiet .no-buy, h .quiet .no-cash) (omega (arith, lays-nothing o opening es i e (h .quiet) (stakeIn es i), wins-nothing o opening es i e (h .quiet))))
 
   -- the seat after it
   end-seat : (purse-of : Seat → ℕ) (s : Seat) → pos (purse-of s) ≡ purseOf o opening (e ∷ es) i → SeatAgrees o opening (e ∷ es) i (cleared purse-of s)
   unfolding handsAfter
   end-seat purse-of s p =
       record {
-        stake-is = simp (q .is-end);
-        insurance-is = simp (q .is-end);
-        hands-are = simp (q .no-deal, q .is-end);
-        laid-is = cleared-laid purse-of s ∙ simp (q .is-end);
-        prizes-are = cleared-prizes o purse-of s ∙ simp (q .is-end);
+        stake-is = simp (h .is-end);
+        insurance-is = simp (h .is-end);
+        hands-are = simp (h .quiet .no-deal, h .is-end);
+        laid-is = cleared-laid purse-of s ∙ simp (h .is-end);
+        prizes-are = cleared-prizes o purse-of s ∙ simp (h .is-end);
         purse-is = p;
       }
 
@@ -119,7 +94,7 @@ module _ (opening : List ℕ) (es : List Entry) (t : Table) (e : Entry) (tray : 
   -- the history's cards after the call
   cards-after : EndCall → (c : Cards) → c ≡ cardsOfHistory (t .options) opening es → cardsOfHistory (t .options) opening (e ∷ es) ≡ makeCards (c .order) (c .fresh) (c .taken + k) []
   unfolding cardsAfter bankAfter
-  cards-after call c same = simp (call .ends .no-load, call .ends .no-deal, call .ends .is-end, call .takes, same)
+  cards-after call c same = simp (call .ends .no-load, call .ends .quiet .no-deal, call .ends .is-end, call .takes, same)
 
   pub end-call : Good opening es t → RoundEnd t tray purse-of shoe k cards → EndCall → Good opening (e ∷ es) (roundEnded t tray purse-of shoe)
   end-call g end call =
@@ -146,7 +121,7 @@ module _ (opening : List ℕ) (es : List Entry) (t : Table) (e : Entry) (tray : 
                   (end .nothing-stays missingSeat (record { no-purse = refl; no-stake = refl; no-insurance = refl; no-hands = refl }))
                   (end-seat (t .options) opening es i e q purse-of (seatAt t i) (call .purses i));
               balance =
-                  simp (q .no-fill, q .no-buy, q .no-credit, q .no-cash)
+                  simp (q .no-fill, q .quiet .no-buy, q .no-credit, q .quiet .no-cash)
                   (omega (arith, end-money t tray purse-of shoe k cards (g .shaped) (g .sound) end, a .balance));
             };
       }

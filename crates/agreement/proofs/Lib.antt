@@ -1,4 +1,5 @@
--- Laws that every call cites: what a call leaves of a history's values, how a call of one seat keeps the agreement, and how one that ends a round does.
+-- Laws that every call cites: what a call leaves of a history's values, how a call of one seat keeps the agreement, and how one that ends a round
+-- does.
 pub mod Purse
 pub mod Quiet
 pub mod OneSeat

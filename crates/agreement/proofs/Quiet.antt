@@ -1,6 +1,7 @@
--- What a call does not touch: the values of a seat that it does not name, and those of every seat where the call is of the house.
+-- What a call does not touch: the values of a seat that it does not name, the money of every seat where the call is quiet, and every value of a
+-- seat where it is of the house.
 use mathlib.Core.Path.{_≡_, sym, _∙_}
-use mathlib.Core.Bool.{true, false, not, and-false}
+use mathlib.Core.Bool.{true, false, not, and-false, and-eq-true-iff}
 use mathlib.Core.List.{List, [], _∷_}
 use Prim.Native.Nat.{ℕ, _<_}
 use native.Mathlib.Nat.{add-zero}
@@ -9,7 +10,7 @@ use Rattle.lists.proofs.Tests.{cond-same, all-at, or-eq-false}
 use lib.IntN.{pos}
 use lib.ListN.{length, getD}
 use borrow.Author.Tests.{not-true}
-use Rattle.lists.specs.Tests.{all}
+use Rattle.lists.specs.Tests.{allOf}
 use Rattle.options.specs.declared.Options.{Options}
 use Rattle.table.specs.declared.Seat.{Seat}
 use Rattle.table.specs.Seat.{purse}
@@ -60,78 +61,97 @@ module _ (o : Options) (opening : List ℕ) (es : List Entry) (i : ℕ) (e : Ent
         purse-is = purse-other (purse s) (a .purse-is);
       }
 
--- a call of the house that names no seat and ends no round: fill, credit and load
-pub record House (e : Entry) : Type 0 where
-  pub no-end : isEnd e ≡ false
+-- a call of none of these kinds is not of the one at a place
+pub none-of : (e : Entry) (kinds : List ℕ) (i : ℕ) → allOf (λ k. not (isKind k e)) kinds ≡ true → i < length kinds → isKind (getD kinds i 0) e ≡ false
+none-of e kinds i h l = not-true (isKind (getD kinds i 0) e) (all-at (λ k. not (isKind k e)) kinds i 0 h l)
+
+-- the same as an equation for each kind, in the list's order, so that a proof names them where it takes the list apart
+abbrev pub NoneOf : Entry → List ℕ → Type 0
+NoneOf e [] = Unit {0}
+NoneOf e (k ∷ ks) = (isKind k e ≡ false) × NoneOf e ks
+
+pub none-of-all : (e : Entry) (kinds : List ℕ) → allOf (λ k. not (isKind k e)) kinds ≡ true → NoneOf e kinds
+unfolding allOf
+none-of-all e [] h = tt
+none-of-all e (k ∷ ks) h =
+    let (here, later) = and-eq-true-iff (not (isKind k e)) (allOf (λ x. not (isKind x e)) ks) .0 h in
+    (not-true (isKind k e) here, none-of-all e ks later)
+
+-- a call that moves no money of a seat itself and gives it no card: fill, credit, load, close and void
+pub record Quiet (e : Entry) : Type 0 where
   pub no-deal : isDeal e ≡ false
-  pub no-stake : isStake e ≡ false
-  pub no-insure : isInsure e ≡ false
   pub no-buy : isBuy e ≡ false
   pub no-cash : isCash e ≡ false
-  pub no-stand : isStand e ≡ false
+  pub no-stake : isStake e ≡ false
+  pub no-insure : isInsure e ≡ false
   pub no-draw : isDraw e ≡ false
   pub no-double : isDouble e ≡ false
   pub no-split : isSplit e ≡ false
+
+-- such a call lays nothing and wins nothing
+module _ (o : Options) (opening : List ℕ) (es : List Entry) (i : ℕ) (e : Entry) (q : Quiet e) where
+  pub lays-nothing : (S : ℕ) → lays i S e ≡ 0
+  unfolding lays
+  lays-nothing S = simp (q .no-stake, q .no-insure, q .no-double, q .no-split, cond-same)
+
+  pub wins-nothing : prizeOf o opening es i e ≡ 0
+  unfolding wins
+  wins-nothing = simp (q .no-draw, q .no-double, and-false)
+
+-- a call of the house that names no seat and ends no round: fill, credit and load
+pub record House (e : Entry) : Type 0 where
+  pub quiet : Quiet e
+  pub no-end : isEnd e ≡ false
+  pub no-deal : isDeal e ≡ false
+  pub no-stand : isStand e ≡ false
   pub no-surrender : isSurrender e ≡ false
   pub no-even : isEven e ≡ false
   pub no-five : isFive e ≡ false
-
--- a call of none of these kinds is not of the one at a place
-pub none-of : (e : Entry) (kinds : List ℕ) (i : ℕ) → all (λ k. not (isKind k e)) kinds ≡ true → i < length kinds → isKind (getD kinds i 0) e ≡ false
-none-of e kinds i h l = not-true (isKind (getD kinds i 0) e) (all-at (λ k. not (isKind k e)) kinds i 0 h l)
 
 -- the kinds that name a seat, deal, or end a round
 abbrev pub otherKinds : List ℕ
 otherKinds = 3 ∷ 4 ∷ 5 ∷ 6 ∷ 7 ∷ 8 ∷ 9 ∷ 10 ∷ 11 ∷ 12 ∷ 13 ∷ 14 ∷ 15 ∷ 16 ∷ []
 
-pub house : (e : Entry) → all (λ k. not (isKind k e)) otherKinds ≡ true → House e
+pub house : (e : Entry) → allOf (λ k. not (isKind k e)) otherKinds ≡ true → House e
 house e h =
+    let (buy, (cash, (stake, (deal, (insure, (stand, (draw, (double, (split, (surrender, (even, (five, (close, (void, _)))))))))))))) = none-of-all e otherKinds h in
     record {
-      no-end = simp (none 12 (omega arith), none 13 (omega arith));
-      no-deal = none 3 (omega arith);
-      no-stake = none 2 (omega arith);
-      no-insure = none 4 (omega arith);
-      no-buy = none 0 (omega arith);
-      no-cash = none 1 (omega arith);
-      no-stand = none 5 (omega arith);
-      no-draw = none 6 (omega arith);
-      no-double = none 7 (omega arith);
-      no-split = none 8 (omega arith);
-      no-surrender = none 9 (omega arith);
-      no-even = none 10 (omega arith);
-      no-five = none 11 (omega arith);
+      quiet = record { no-deal = deal; no-buy = buy; no-cash = cash; no-stake = stake; no-insure = insure; no-draw = draw; no-double = double; no-split = split };
+      no-end = simp (close, void);
+      no-deal = deal;
+      no-stand = stand;
+      no-surrender = surrender;
+      no-even = even;
+      no-five = five;
     }
-  where
-    none : (i : ℕ) → i < 14 → isKind (getD otherKinds i 0) e ≡ false
-    none i l = none-of e otherKinds i h l
 
-module _ (o : Options) (opening : List ℕ) (es : List Entry) (i : ℕ) (e : Entry) (q : House e) where
+module _ (o : Options) (opening : List ℕ) (es : List Entry) (i : ℕ) (e : Entry) (h : House e) where
+  abbrev q : Quiet e
+  q = h .quiet
+
   hands-house : handsIn o opening (e ∷ es) i ≡ handsIn o opening es i
   unfolding handsAfter decide
-  hands-house = simp (q .no-deal, q .no-end, q .no-stand, q .no-draw, q .no-double, q .no-split, q .no-surrender, q .no-even, q .no-five) (cond-same (isOf i e) (handsIn o opening es i))
-
-  lays-house : (S : ℕ) → lays i S e ≡ 0
-  unfolding lays
-  lays-house S = simp (q .no-stake, q .no-insure, q .no-double, q .no-split, cond-same)
-
-  prize-house : prizeOf o opening es i e ≡ 0
-  unfolding wins
-  prize-house = simp (q .no-draw, q .no-double, and-false)
+  hands-house =
+      simp (h .no-deal, h .no-end, h .no-stand, q .no-draw, q .no-double, q .no-split, h .no-surrender, h .no-even, h .no-five)
+      (cond-same (isOf i e) (handsIn o opening es i))
 
   pub house-seat : (s : Seat) → SeatAgrees o opening es i s → SeatAgrees o opening (e ∷ es) i s
   house-seat s a =
+      let lays-none = lays-nothing o opening es i e q (stakeIn es i) in
+      let wins-none = wins-nothing o opening es i e q in
       record {
-        stake-is = a .stake-is ∙ sym (simp (q .no-end, q .no-stake));
-        insurance-is = a .insurance-is ∙ sym (simp (q .no-end, q .no-insure));
+        stake-is = a .stake-is ∙ sym (simp (h .no-end, q .no-stake));
+        insurance-is = a .insurance-is ∙ sym (simp (h .no-end, q .no-insure));
         hands-are = a .hands-are ∙ sym hands-house;
-        laid-is = a .laid-is ∙ sym (simp (q .no-end) (omega (arith, lays-house (stakeIn es i))));
-        prizes-are = a .prizes-are ∙ sym (simp (q .no-end) (omega (arith, prize-house)));
-        purse-is = purse-moves o opening es i e (q .no-end) (purse s) (purse s) (a .purse-is) (simp (q .no-buy, q .no-cash) (omega (arith, lays-house (stakeIn es i), prize-house)));
+        laid-is = a .laid-is ∙ sym (simp (h .no-end) (omega (arith, lays-none)));
+        prizes-are = a .prizes-are ∙ sym (simp (h .no-end) (omega (arith, wins-none)));
+        purse-is = purse-moves o opening es i e (h .no-end) (purse s) (purse s) (a .purse-is) (simp (q .no-buy, q .no-cash) (omega (arith, lays-none, wins-none)));
       }
 
 -- the history's cards stay at such a call, unless it is a load
 pub house-cards : (o : Options) (opening : List ℕ) (es : List Entry) (e : Entry) → House e → isLoad e ≡ false → cardsOfHistory o opening (e ∷ es) ≡ cardsOfHistory o opening es
 unfolding cardsAfter callTakes bankAfter
-house-cards o opening es e q no-load =
-    let (no-close, no-void) = or-eq-false (isClose e) (isVoid e) (q .no-end) in
-    simp (no-load, q .no-deal, q .no-draw, q .no-double, q .no-split, no-close, no-void, add-zero)
+house-cards o opening es e h no-load =
+    let (no-close, no-void) = or-eq-false (isClose e) (isVoid e) (h .no-end) in
+    let q = h .quiet in
+    simp (no-load, h .no-deal, q .no-draw, q .no-double, q .no-split, no-close, no-void, add-zero)

@@ -1,2 +1,2 @@
--- What only proofs and the contracts of private functions cite: nothing here has to be believed.
+-- How a table agrees with a history: what the induction of the theorem carries. Nothing here has to be believed.
 pub mod Agrees

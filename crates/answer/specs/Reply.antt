@@ -7,8 +7,8 @@ use Rattle.call.specs.Refusal.{Condition, first}
 use Rattle.call.specs.Answer.{Answer, Shown, emptyShown}
 use Rattle.answer.specs.declared.outcome.Outcome.{Outcome}
 use Rattle.table.specs.declared.Table.{Table}
-use Rattle.answer.specs.declared.Settlement.{Settlement}
-use Rattle.answer.specs.declared.Reply.{Reply}
+use Rattle.answer.specs.declared.settlement.Settlement.{Settlement}
+use Rattle.answer.specs.declared.reply.Reply.{Reply}
 use Rattle.answer.specs.Settlement.{emptySettlement, shownOf}
 
 -- The answer and the next table.

@@ -4,14 +4,13 @@ use mathlib.Core.List.{List}
 use Prim.Native.Nat.{ℕ, _+_}
 use lib.Dec.{ltb}
 use lib.IntN.{pos}
-use lib.ListN.{length, take, set, replicate}
-use lib.Seq.{sets}
+use lib.ListN.{take, set, replicate}
 use Rattle.call.specs.declared.PayLine.{PayLine}
 use Rattle.call.specs.Answer.{Shown}
 use Rattle.cards.specs.declared.hand.Hand.{Hand}
 use Rattle.cards.specs.Hand.{cardsOf, emptyHand}
-use Rattle.answer.specs.declared.PayLines.{PayLines}
-use Rattle.answer.specs.declared.Settlement.{Settlement}
+use Rattle.answer.specs.declared.settlement.PayLines.{PayLines}
+use Rattle.answer.specs.declared.settlement.Settlement.{Settlement}
 
 abbrev pub makeLines : List PayLine → ℕ → PayLines
 makeLines lines count = record { lines = lines; count = count }
@@ -33,10 +32,6 @@ emptyLines = makeLines (replicate 45 noLine) 0
 
 unfoldable pub withLine : PayLines → PayLine → PayLines
 withLine l line = cond (ltb (l .count) 45) (makeLines (set (l .lines) (l .count) line) (l .count + 1)) l
-
--- So many lines more, behind the others in their order.
-abbrev pub withLines : PayLines → List PayLine → PayLines
-withLines l more = makeLines (sets (l .lines) (l .count) more) (l .count + length more)
 
 -- A settlement with no card and no line.
 abbrev pub emptySettlement : Settlement

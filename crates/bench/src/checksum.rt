@@ -1,5 +1,5 @@
 // A number that changes with every answer, every sum of money and every card.
-use answer::Answer;
+use answer::reply::Answer;
 use cards::hand::Hand;
 use cards::hand::held;
 use table::Table;
@@ -31,7 +31,7 @@ fn of_purses(t: Table, sum: u64) -> u64 {
 }
 
 // Number, tray and cards drawn of every call; of an accepted close the bank's cards and the purses too.
-pub fn of_step(sum: u64, answer: Answer, t: Table) -> u64 {
+pub(crate) fn of_step(sum: u64, answer: Answer, t: Table) -> u64 {
     let shoe = t.shoe;
     let all = mix(
         mix(mix(sum, answer.number as u64), t.tray),

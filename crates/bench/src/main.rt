@@ -3,7 +3,7 @@ mod checksum;
 mod house;
 mod plan;
 
-use answer::Reply;
+use answer::reply::Reply;
 use cashier::opening::opening;
 use engine::step;
 use libc::STDOUT_FILENO;

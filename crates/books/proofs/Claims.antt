@@ -7,7 +7,7 @@ use native.Mathlib.Decide.{decLe}
 use native.Mathlib.Omega.{arith}
 use lib.ListN.{length, take-append-drop, List·getD-eq-default}
 use borrow.Author.Tests.{ltb-false}
-use Rattle.lists.specs.Sum.{sum, isIt}
+use Rattle.lists.specs.Sum.{sumOf, isIt}
 use Rattle.lists.proofs.Sums.{sum-append}
 use Rattle.lists.proofs.Differences.{diff-pos, diff-sub, diff-is}
 use Rattle.table.specs.declared.Table.{Table}
@@ -20,7 +20,7 @@ use Rattle.history.specs.Entry.{Entry}
 use Rattle.history.specs.Rounds.{isDealtRound}
 use Rattle.history.specs.Money.{cameIn, wentOut}
 use Rattle.agreement.specs.Aids.Agrees.{Good}
-use Rattle.cashier_spec.proofs.Loads.{no-hand}
+use Rattle.cashier_spec.proofs.BetweenRounds.{no-hand}
 use Rattle.books.specs.Books.{Claim}
 
 empty-list : (xs : List ℕ) → length xs ≡ 0 → xs ≡ []
@@ -39,8 +39,8 @@ module _ (opening : List ℕ) (es : List Entry) (t : Table) (g : Good opening es
       go (no h) = no-hands (seatAt t i) (no-hand t i (omega arith) (g .sound) (none-dealt e))
 
   -- the order in two: what is drawn and what is left
-  halves : (w : ℕ → ℕ) → sum w (tableDrawn t) + sum w (tableShoe t) ≡ sum w (tableOrder t)
-  halves w = sym (sum-append w (tableDrawn t) (tableShoe t)) ∙ ap (sum w) (take-append-drop (t .shoe .drawn) (tableOrder t))
+  halves : (w : ℕ → ℕ) → sumOf w (tableDrawn t) + sumOf w (tableShoe t) ≡ sumOf w (tableOrder t)
+  halves w = sym (sum-append w (tableDrawn t) (tableShoe t)) ∙ ap (sumOf w) (take-append-drop (t .shoe .drawn) (tableOrder t))
 
   pub claim : Claim (t .options) opening es t
   claim =
@@ -63,7 +63,7 @@ module _ (opening : List ℕ) (es : List Entry) (t : Table) (g : Good opening es
               sum-append (isIt face) (handCards t) (bankCards t),
               g .sound .faces face (omega arith),
               halves (isIt face),
-              ap (sum (isIt face)) (c .order),
+              ap (sumOf (isIt face)) (c .order),
             );
         sound = ap not (facts-sound t (g .shaped .bank) (g .sound));
       }

@@ -8,7 +8,8 @@ use Rattle.call.specs.Refusal.{first}
 use Rattle.table.specs.declared.Table.{Table}
 use Rattle.table.specs.Shape.{Shaped}
 use Rattle.table.specs.Aids.Sound.{Sound}
-use Rattle.history.specs.Entry.{Entry, entry}
+use Rattle.history.specs.Entry.{Entry}
+use Rattle.history.specs.Aids.MakeEntry.{entry}
 use Rattle.agreement.specs.Aids.Agrees.{Good}
 use Rattle.cashier_spec.specs.Fill.{fillEffect}
 use Rattle.cashier_spec.specs.Credit.{creditEffect}
@@ -16,25 +17,32 @@ use Rattle.cashier_spec.specs.Buy.{buyEffect}
 use Rattle.cashier_spec.specs.Cash.{cashEffect}
 use Rattle.cashier_spec.specs.Load.{loadEffect}
 use Rattle.cashier_spec.specs.Stake.{stakeEffect}
-use Rattle.cashier_spec.proofs.Tray.{fill-kept, fill-good, credit-kept, credit-good}
-use Rattle.cashier_spec.proofs.Loads.{load-kept, load-good}
-use Rattle.cashier_spec.proofs.Purses.{buy-kept, buy-good, cash-kept, cash-good, stake-kept, stake-good}
+use Rattle.cashier_spec.proofs.Fill.{fill-kept, fill-good}
+use Rattle.cashier_spec.proofs.Credit.{credit-kept, credit-good}
+use Rattle.cashier_spec.proofs.Buy.{buy-kept, buy-good}
+use Rattle.cashier_spec.proofs.Cash.{cash-kept, cash-good}
+use Rattle.cashier_spec.proofs.Load.{load-kept, load-good}
+use Rattle.cashier_spec.proofs.Stake.{stake-kept, stake-good}
 use Rattle.deal_spec.specs.Deal.{dealEffect}
 use Rattle.close_spec.specs.Void.{voidEffect}
 use Rattle.deal_spec.proofs.Deal.{deal-kept, deal-good}
 use Rattle.close_spec.proofs.Void.{void-kept, void-good}
-use Rattle.decision_spec.specs.Insure.{insureEffect}
-use Rattle.decision_spec.specs.Surrender.{surrenderEffect}
-use Rattle.decision_spec.specs.Turn.{endEffect}
-use Rattle.decision_spec.specs.Card.{cardEffect}
-use Rattle.decision_spec.specs.Split.{splitEffect}
-use Rattle.decision_spec.proofs.OneCall.{decision-kept, decision-good}
-use Rattle.decision_spec.proofs.Insuring.{insure-decides}
-use Rattle.decision_spec.proofs.Ending.{stand-decides, even-decides, five-decides, surrender-decides}
-use Rattle.decision_spec.proofs.Drawing.{draw-decides, double-decides}
-use Rattle.decision_spec.proofs.Splitting.{split-decides}
+use Rattle.decisions_spec.specs.Insure.{insureEffect}
+use Rattle.decisions_spec.specs.Surrender.{surrenderEffect}
+use Rattle.decisions_spec.specs.Turn.{endEffect}
+use Rattle.decisions_spec.specs.Card.{cardEffect}
+use Rattle.decisions_spec.specs.Split.{splitEffect}
+use Rattle.decisions_spec.proofs.Decision.{decision-kept, decision-good}
+use Rattle.decisions_spec.proofs.Insure.{insure-decides}
+use Rattle.decisions_spec.proofs.Stand.{stand-decides}
+use Rattle.decisions_spec.proofs.Even.{even-decides}
+use Rattle.decisions_spec.proofs.Five.{five-decides}
+use Rattle.decisions_spec.proofs.Surrender.{surrender-decides}
+use Rattle.decisions_spec.proofs.Draw.{draw-decides}
+use Rattle.decisions_spec.proofs.Double.{double-decides}
+use Rattle.decisions_spec.proofs.Split.{split-decides}
 use Rattle.close_spec.specs.Close.{closeEffect}
-use Rattle.close_spec.proofs.Closes.{close-kept, close-good}
+use Rattle.close_spec.proofs.Close.{close-kept, close-good}
 use Rattle.engine.specs.Step.{conditions, effect}
 
 pub step-good : (opening : List ℕ) (es : List Entry) (t : Table) (c : Call) (order : List ℕ) → Good opening es t → first (conditions t c order) ≡ 0

@@ -10,7 +10,7 @@ use Rattle.table.specs.declared.Table.{Table}
 use Rattle.history.specs.Entry.{Entry}
 use Rattle.agreement.specs.Aids.Agrees.{Good}
 use Rattle.cashier_spec.specs.Opening.{openNumber, opened}
-use Rattle.cashier_spec.proofs.Opens.{open-good, accepted-table}
+use Rattle.cashier_spec.proofs.Opening.{open-good, accepted-table}
 use Rattle.answer.specs.Reply.{replyBy}
 use Rattle.engine.specs.Step.{number, effect, next, step}
 use Rattle.engine.specs.Run.{run, accepted}

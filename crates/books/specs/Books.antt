@@ -6,7 +6,7 @@ use mathlib.Core.List.{List, [], _++_}
 use Prim.Native.Nat.{ℕ, _+_, _<_}
 use lib.IntN.{pos, _-ℤ_}
 use lib.ListN.{length}
-use Rattle.lists.specs.Sum.{count}
+use Rattle.lists.specs.Sum.{countOf}
 use Rattle.options.specs.declared.Options.{Options}
 use Rattle.table.specs.declared.Table.{Table}
 use Rattle.table.specs.Seat.{purse, hands, laid}
@@ -39,7 +39,7 @@ pub record Claim (o : Options) (opening : List ℕ) (es : List Entry) (t : Table
   -- and the count of cards left is how many that shoe has
   pub left-is : cardsLeft t ≡ length (tableShoe t)
   -- of every face hands, bank, discards and shoe together hold as many cards as that order
-  pub faces : (face : ℕ) → face < 52 → count face (handCards t) + count face (bankCards t) + count face (tableDiscards t) + count face (tableShoe t) ≡ count face (cardsOfHistory o opening es .order)
+  pub faces : (face : ℕ) → face < 52 → countOf face (handCards t) + countOf face (bankCards t) + countOf face (tableDiscards t) + countOf face (tableShoe t) ≡ countOf face (cardsOfHistory o opening es .order)
   -- the table is not broken
   pub sound : broken t ≡ false
 

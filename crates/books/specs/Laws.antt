@@ -1,4 +1,4 @@
--- Two laws beside the theorem.
+-- Two laws beside the theorem: an accepted call keeps a whole table whole, and the accepted calls alone give the same table.
 use mathlib.Core.Path.{_≡_}
 use mathlib.Core.Bool.{false}
 use mathlib.Core.List.{List, [], reverse}

@@ -1,3 +1,2 @@
--- What the pass over the seats gives.
 -- What only proofs and the contracts of private functions cite: nothing here has to be believed.
 pub mod Aids

@@ -1,7 +1,7 @@
 // Hands of any table value: 2 to 20 cards that could have been played, codes in range (docs/BROKEN.md, 4).
 ghost use mathlib.Core.Path.{_≡_};
 ghost use lib.ListN.{take};
-ghost use Rattle.lists.specs.Tests.{all};
+ghost use Rattle.lists.specs.Tests.{allOf};
 ghost use Rattle.cards.specs.Hand.{cardsOf};
 ghost use Rattle.cards.specs.Length.{couldBePlayed};
 ghost use Rattle.table.specs.Broken.{soundHand};
@@ -26,8 +26,8 @@ fn sound_hand(h: SeatHand) -> bool
 }
 
 // Every hand in use.
-pub fn all_sound(s: SeatHands) -> bool
-    ensures { λ r. ⌜ r ≡ all soundHand (take (s .many) (s .places)) ⌝ }
+pub(crate) fn all_sound(s: SeatHands) -> bool
+    ensures { λ r. ⌜ r ≡ allOf soundHand (take (s .many) (s .places)) ⌝ }
 {
     let n = rules::seat_hand::used(s);
     for i in 0usize..n {

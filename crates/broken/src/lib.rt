@@ -1,7 +1,7 @@
-// Number 1: whether a table is broken (docs/BROKEN.md). Any table value is taken: counts past their arrays, sums that would not fit, bytes
+// Whether a table is broken, number 1 of every call (docs/BROKEN.md). Any table value is taken: counts past their arrays, sums that would not fit, bytes
 // that are no card, codes out of range.
-pub mod hand;
-pub mod seat;
+mod hand;
+mod seat;
 
 ghost use mathlib.Core.Path.{_≡_};
 ghost use mathlib.Core.Bool.{_&&_};

@@ -7,10 +7,10 @@ ghost use Rattle.table.specs.Seat.{purse};
 ghost use Rattle.table.specs.Broken.{soundNumber, soundStake, soundInsurance, soundHands, soundSeat};
 ghost use Rattle.money.specs.Sums.{seatSums};
 use crate::hand::all_sound;
-use options::permitted::insurance_permitted;
-use options::permitted::stake_permitted;
 use money::sums::Sums;
 use options::Options;
+use options::permitted::insurance_permitted;
+use options::permitted::stake_permitted;
 use table::Seat;
 
 // A seat beyond the option holds nothing.
@@ -59,7 +59,7 @@ fn sound_prizes(s: Seat, m: Sums) -> bool
 }
 
 // Public for broken alone, which works the seat's sums out once: so it asks that `m` is these.
-pub fn sound_seat(o: Options, dealt: bool, ace: bool, i: usize, s: Seat, m: Sums) -> bool
+pub(crate) fn sound_seat(o: Options, dealt: bool, ace: bool, i: usize, s: Seat, m: Sums) -> bool
     requires { ⌜ m ≡ seatSums o s ⌝ }
     ensures { λ r. ⌜ r ≡ soundSeat o dealt ace i s ⌝ }
 {

@@ -2,20 +2,19 @@
 use mathlib.Core.Path.{_≡_, refl, sym, _∙_, ap}
 use mathlib.Core.Bool.{Bool, true, false, and-eq-true-iff}
 use mathlib.Core.List.{List, [], _∷_, _++_}
-use Prim.Native.Nat.{ℕ, zero, suc, _<_}
+use Prim.Native.Nat.{ℕ, _<_}
 use native.Mathlib.Omega.{arith}
 use lib.Dec.{ltb}
-use lib.ListN.{getD}
 use borrow.Author.Tests.{ltb-true}
-use Rattle.lists.specs.Tests.{any, all}
+use Rattle.lists.specs.Tests.{anyOf, allOf}
 use Rattle.lists.proofs.Tests.{or-eq-false}
 use Rattle.call.specs.Refusal.{Condition, first, holds, FirstAt}
 
-says : (before : List Condition) (n : ℕ) (after : List Condition) → any holds before ≡ false → first (before ++ (n, true) ∷ after) ≡ n
-unfolding first any
+says : (before : List Condition) (n : ℕ) (after : List Condition) → anyOf holds before ≡ false → first (before ++ (n, true) ∷ after) ≡ n
+unfolding first anyOf
 says [] n after none = refl
 says (c ∷ cs) n after none =
-    let (here, later) = or-eq-false (holds c) (any holds cs) none in
+    let (here, later) = or-eq-false (holds c) (anyOf holds cs) none in
     rw here (says cs n after later)
 
 -- where it stands, it is the answer
@@ -24,7 +23,7 @@ first-says cs n at = ap first (at .here) ∙ says (at .before) n (at .after) (at
 
 -- an answer that is no 0 stands somewhere
 pub first-stands : (cs : List Condition) (n : ℕ) → (n ≡ 0 → ⊥) → first cs ≡ n → FirstAt cs n
-unfolding first any
+unfolding first anyOf
 first-stands [] n h e = absurd (h (sym e))
 first-stands ((m, true) ∷ cs) n h e = record { before = []; after = cs; here = ap (λ (k : ℕ). (k, true) ∷ cs) e; none = refl }
 first-stands ((m, false) ∷ cs) n h e =
@@ -47,14 +46,17 @@ unfolding first
 accepted-tail n true cs h e = omega arith
 accepted-tail n false cs h e = e
 
--- the condition at a place of the list
-pub accepted-at : (cs : List Condition) (k : ℕ) → all (λ c. ltb 0 (c .0)) cs ≡ true → first cs ≡ 0 → getD cs k (0, false) .1 ≡ false
-unfolding all
-accepted-at [] k numbers e = refl
-accepted-at ((n, b) ∷ cs) zero numbers e = accepted-head n b cs (ltb-true 0 n (and-eq-true-iff (ltb 0 n) (all (λ c. ltb 0 (c .0)) cs) .0 numbers .0)) e
-accepted-at ((n, b) ∷ cs) (suc k) numbers e =
-    let (here, later) = and-eq-true-iff (ltb 0 n) (all (λ c. ltb 0 (c .0)) cs) .0 numbers in
-    accepted-at cs k later (accepted-tail n b cs (ltb-true 0 n here) e)
+-- no condition of the list holds: an equation for each, in the list's order, so that a proof names them where it takes the list apart
+abbrev pub NoneHold : List Condition → Type 0
+NoneHold [] = Unit {0}
+NoneHold ((n, b) ∷ cs) = (b ≡ false) × NoneHold cs
+
+pub none-hold : (cs : List Condition) → allOf (λ c. ltb 0 (c .0)) cs ≡ true → first cs ≡ 0 → NoneHold cs
+unfolding allOf
+none-hold [] numbers e = tt
+none-hold ((n, b) ∷ cs) numbers e =
+    let (here, later) = and-eq-true-iff (ltb 0 n) (allOf (λ c. ltb 0 (c .0)) cs) .0 numbers in
+    (accepted-head n b cs (ltb-true 0 n here) e, none-hold cs later (accepted-tail n b cs (ltb-true 0 n here) e))
 
 -- conditions asked one list after the other: the first list's answer, or else the second's
 pub first-before : (cs rest : List Condition) (n : ℕ) → first cs ≡ n → (n ≡ 0 → ⊥) → first (cs ++ rest) ≡ n
@@ -63,22 +65,9 @@ first-before [] rest n e some = absurd (some (sym e))
 first-before ((m, true) ∷ cs) rest n e some = e
 first-before ((m, false) ∷ cs) rest n e some = first-before cs rest n e some
 
-pub first-behind : (cs rest : List Condition) → all (λ c. ltb 0 (c .0)) cs ≡ true → first cs ≡ 0 → first (cs ++ rest) ≡ first rest
-unfolding first all
+pub first-behind : (cs rest : List Condition) → allOf (λ c. ltb 0 (c .0)) cs ≡ true → first cs ≡ 0 → first (cs ++ rest) ≡ first rest
+unfolding first allOf
 first-behind [] rest numbers e = refl
 first-behind ((m, true) ∷ cs) rest numbers e =
-    absurd (omega (arith, ltb-true 0 m (and-eq-true-iff (ltb 0 m) (all (λ c. ltb 0 (c .0)) cs) .0 numbers .0)))
-first-behind ((m, false) ∷ cs) rest numbers e = first-behind cs rest (and-eq-true-iff (ltb 0 m) (all (λ c. ltb 0 (c .0)) cs) .0 numbers .1) e
-
--- a condition that holds answers; one that does not leaves the rest to answer, and as the last one gives 0
-pub first-here : (n : ℕ) (b : Bool) (rest : List Condition) → b ≡ true → first ((n, b) ∷ rest) ≡ n
-unfolding first
-first-here n b rest e = rw e
-
-pub first-next : (n : ℕ) (b : Bool) (rest : List Condition) → b ≡ false → first ((n, b) ∷ rest) ≡ first rest
-unfolding first
-first-next n b rest e = rw e
-
-pub first-last : (n : ℕ) (b : Bool) → b ≡ false → first ((n, b) ∷ []) ≡ 0
-unfolding first
-first-last n b e = rw e
+    absurd (omega (arith, ltb-true 0 m (and-eq-true-iff (ltb 0 m) (allOf (λ c. ltb 0 (c .0)) cs) .0 numbers .0)))
+first-behind ((m, false) ∷ cs) rest numbers e = first-behind cs rest (and-eq-true-iff (ltb 0 m) (allOf (λ c. ltb 0 (c .0)) cs) .0 numbers .1) e

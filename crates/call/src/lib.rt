@@ -1,4 +1,5 @@
 // The seventeen calls of document 01 as one enum, with seat and amount as data. A load carries no order: it is lent beside the call.
+pub mod refusal;
 
 // The seat that a call names.
 pub struct At {

@@ -1,2 +1,2 @@
 -- Laws of counters.
-pub mod Tallies
+pub mod Counts

@@ -6,7 +6,7 @@ ghost use Rattle.lists.specs.Below.{allBelow};
 ghost use Rattle.card_count.specs.Aids.Counters.{countedAll, Room};
 
 // Each card adds one to the counter of its byte.
-pub fn count(of: &mut [u16; 256], cards: &[u8])
+pub(crate) fn count(of: &mut [u16; 256], cards: &[u8])
     requires { ⌜ Room (now of) (length (now cards)) ⌝ }
     ensures { λ _. ⌜ now (of .exit) ≡ countedAll (now (of .entry)) (now (cards .entry)) ⌝ }
 {
@@ -18,7 +18,7 @@ pub fn count(of: &mut [u16; 256], cards: &[u8])
 }
 
 // Whether each of the 52 faces was counted so many times. There is no branch, so that the compiler tests several at a time.
-pub fn each_face(of: &[u16; 256], times: u16) -> bool
+pub(crate) fn each_face(of: &[u16; 256], times: u16) -> bool
     ensures { λ r. ⌜ r ≡ allBelow (λ face. eqb (getD (now (of .entry)) face 0) times) 52 ⌝ }
 {
     let mut all = true;

@@ -75,7 +75,7 @@ fn count_first(of: &mut [u16; 256], cards: [u8; 416], n: usize) -> usize
 }
 
 // The cards that have left the shoe: in hands, with the bank and among the discards.
-pub fn count_out(of: &mut [u16; 256], t: Table) -> usize
+pub(crate) fn count_out(of: &mut [u16; 256], t: Table) -> usize
     requires { ⌜ Room (now of) 1156 ⌝ }
     ensures { λ r. ⌜ Counted (now (of .entry)) (now (of .exit)) (outCards t) r 1156 ⌝ }
 {

@@ -1,4 +1,5 @@
--- How many cards a hand can come to. Eleven aces are 21 and end, so twelve cards or more are never all aces.
+-- Document 01, "Cards and totals": 20 cards can occur. How many a hand can come to: eleven aces are 21 and end, so twelve cards or more are never all
+-- aces.
 use mathlib.Core.Bool.{Bool, _||_}
 use mathlib.Core.List.{List}
 use Prim.Native.Nat.{ℕ}

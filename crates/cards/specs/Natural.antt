@@ -4,9 +4,9 @@ use mathlib.Core.List.{List}
 use Prim.Native.Nat.{ℕ}
 use lib.Dec.{eqb}
 use lib.ListN.{length}
-use Rattle.lists.specs.Tests.{any}
+use Rattle.lists.specs.Tests.{anyOf}
 use Rattle.cards.specs.Card.{isAce, isTenValue}
 
 -- Natural: two cards, an ace and a ten-value.
 unfoldable pub isNatural : List ℕ → Bool
-isNatural cards = eqb (length cards) 2 && any isAce cards && any isTenValue cards
+isNatural cards = eqb (length cards) 2 && anyOf isAce cards && anyOf isTenValue cards

@@ -4,7 +4,7 @@ use mathlib.Core.List.{List}
 use Prim.Native.Nat.{ℕ}
 use lib.Dec.{eqb}
 use lib.ListN.{length, getD}
-use Rattle.lists.specs.Tests.{any, all}
+use Rattle.lists.specs.Tests.{anyOf, allOf}
 use Rattle.cards.specs.Card.{suitOf, rankOf}
 
 -- The card is of the rank; the six has rank 5, the seven 6, the eight 7.
@@ -13,13 +13,13 @@ hasRank rank card = eqb (rankOf card) rank
 
 -- Every card is a seven.
 unfoldable pub allSevens : List ℕ → Bool
-allSevens cards = all (hasRank 6) cards
+allSevens cards = allOf (hasRank 6) cards
 
 -- A six, a seven and an eight are there, and every card is of the first one's suit.
 unfoldable pub suitedSixSevenEight : List ℕ → Bool
 suitedSixSevenEight cards =
-    any (hasRank 5) cards && any (hasRank 6) cards && any (hasRank 7) cards
-    && all (λ card. eqb (suitOf card) (suitOf (getD cards 0 0))) cards
+    anyOf (hasRank 5) cards && anyOf (hasRank 6) cards && anyOf (hasRank 7) cards
+    && allOf (λ card. eqb (suitOf card) (suitOf (getD cards 0 0))) cards
 
 -- Prize hand: three cards, all sevens or a suited 6-7-8.
 unfoldable pub isPrizeHand : List ℕ → Bool

@@ -1,4 +1,4 @@
-// The hand: its cards together with their number.
+// The hand: its cards together with their number. A count past the array is read as twenty, here and in the definitions.
 ghost use mathlib.Core.Path.{_≡_};
 ghost use Prim.Native.Nat.{min};
 ghost use Rattle.cards.specs.Hand.{emptyHand, withCard};

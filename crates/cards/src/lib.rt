@@ -1,4 +1,5 @@
-// cards: cards, hands, totals, patterns, prizes.
+// Cards and what a list of them comes to (document 01, "Cards and totals"): points, the hand of up to twenty, total, natural, pair, prize hand. Every byte
+// is taken for a card and every hand for one, a damaged one too; nothing here knows a seat, a stake or the bank.
 pub mod card;
 pub mod hand;
 pub mod natural;

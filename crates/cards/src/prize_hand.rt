@@ -1,14 +1,14 @@
 // Prize hand (document 01, "Payment", article 15): three sevens, or a suited 6-7-8 in any order.
 ghost use mathlib.Core.Path.{_≡_};
 ghost use mathlib.Core.List.{[], _∷_};
-ghost use Rattle.lists.specs.Tests.{any};
+ghost use Rattle.lists.specs.Tests.{anyOf};
 ghost use Rattle.cards.specs.Hand.{cardsOf};
 ghost use Rattle.cards.specs.PrizeHand.{hasRank, allSevens, suitedSixSevenEight, isPrizeHand};
 use crate::hand::Hand;
 
 // Whether one of three cards has the rank.
 fn one_has_rank(rank: u8, a: u8, b: u8, c: u8) -> bool
-    ensures { λ r. ⌜ r ≡ any (hasRank rank) (a ∷ b ∷ c ∷ []) ⌝ }
+    ensures { λ r. ⌜ r ≡ anyOf (hasRank rank) (a ∷ b ∷ c ∷ []) ⌝ }
 {
     if crate::card::rank(a) == rank {
         return true;

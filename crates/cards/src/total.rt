@@ -19,7 +19,7 @@ pub fn low_sum(h: Hand) -> u32
 }
 
 // Whether an ace is among the cards.
-pub fn has_ace(h: Hand) -> bool
+pub(crate) fn has_ace(h: Hand) -> bool
     ensures { λ r. ⌜ r ≡ hasAce (cardsOf h) ⌝ }
 {
     let n = held(h);

@@ -1,33 +1,34 @@
-// buy: a seat's purse up (document 01, "The seventeen calls"). The number function asks the list's conditions in its order.
+// buy: a seat's purse up (document 01, "The seventeen calls"). For every table, seat and amount its outcome is that of cashier_spec/specs/Buy.antt.
 ghost use mathlib.Core.Path.{_≡_};
 ghost use Rattle.call.specs.Refusal.{first};
 ghost use Rattle.answer.specs.Outcome.{outcome};
 ghost use Rattle.cashier_spec.specs.Buy.{buyConditions, buyEffect};
-use crate::between::between_number;
+use crate::purse::purse_at;
+use crate::purse::with_purse_at;
+use answer::conditions::seat_number;
 use answer::outcome::Outcome;
 use broken::broken;
 use call::At;
+use call::refusal::asked;
 use money::most_money::past_most_money;
 use money::sums::table_sums;
-use state::seat::seat_at;
-use state::seat::with_purse;
-use state::seat::with_seat;
+use state::round::is_dealt;
 use table::Table;
 
+// The number of a buy: what every call of a seat asks first, then the rest of its list.
 fn buy_number(t: Table, at: At, n: u64) -> u8
     ensures { λ r. ⌜ r ≡ first (buyConditions t (at .seat) n) ⌝ }
 {
-    let early = between_number(broken(t), t, at);
+    let o = t.options;
+    let early = seat_number(broken(t), 4, is_dealt(t), o.seats, at.seat);
     if early != 0 {
         return early;
     }
-    if n == 0 {
-        return 14;
-    }
-    if past_most_money(t.tray, table_sums(t), n) {
-        return 14;
-    }
-    0
+    asked(
+        14,
+        n == 0,
+        asked(14, past_most_money(t.tray, table_sums(t), n), 0),
+    )
 }
 
 pub fn buy(t: Table, at: At, n: u64) -> Outcome
@@ -37,12 +38,8 @@ pub fn buy(t: Table, at: At, n: u64) -> Outcome
     if number != 0 {
         return Outcome { number, table: t };
     }
-    let j = at.seat as usize;
-    let s = seat_at(t, j);
-    let money = s.money;
-    let next = with_purse(s, money.purse + n);
     Outcome {
         number,
-        table: with_seat(t, j, next),
+        table: with_purse_at(t, at, purse_at(t, at) + n),
     }
 }

@@ -1,33 +1,28 @@
-// cash: a seat's purse down (document 01, "The seventeen calls"). The number function asks the list's conditions in its order.
+// cash: a seat's purse down (document 01, "The seventeen calls"). For every table, seat and amount its outcome is that of cashier_spec/specs/Cash.antt.
 ghost use mathlib.Core.Path.{_≡_};
 ghost use Rattle.call.specs.Refusal.{first};
 ghost use Rattle.answer.specs.Outcome.{outcome};
 ghost use Rattle.cashier_spec.specs.Cash.{cashConditions, cashEffect};
-use crate::between::between_number;
+use crate::purse::purse_at;
+use crate::purse::with_purse_at;
+use answer::conditions::seat_number;
 use answer::outcome::Outcome;
 use broken::broken;
 use call::At;
-use state::seat::seat_at;
-use state::seat::with_purse;
-use state::seat::with_seat;
+use call::refusal::asked;
+use state::round::is_dealt;
 use table::Table;
 
+// The number of a cash: what every call of a seat asks first, then the rest of its list. A purse is read only of a seat that there is.
 fn cash_number(t: Table, at: At, n: u64) -> u8
     ensures { λ r. ⌜ r ≡ first (cashConditions t (at .seat) n) ⌝ }
 {
-    let early = between_number(broken(t), t, at);
+    let o = t.options;
+    let early = seat_number(broken(t), 4, is_dealt(t), o.seats, at.seat);
     if early != 0 {
         return early;
     }
-    if n == 0 {
-        return 14;
-    }
-    let s = seat_at(t, at.seat as usize);
-    let money = s.money;
-    if money.purse < n {
-        return 15;
-    }
-    0
+    asked(14, n == 0, asked(15, purse_at(t, at) < n, 0))
 }
 
 pub fn cash(t: Table, at: At, n: u64) -> Outcome
@@ -37,12 +32,8 @@ pub fn cash(t: Table, at: At, n: u64) -> Outcome
     if number != 0 {
         return Outcome { number, table: t };
     }
-    let j = at.seat as usize;
-    let s = seat_at(t, j);
-    let money = s.money;
-    let next = with_purse(s, money.purse - n);
     Outcome {
         number,
-        table: with_seat(t, j, next),
+        table: with_purse_at(t, at, purse_at(t, at) - n),
     }
 }

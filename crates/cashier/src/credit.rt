@@ -1,29 +1,24 @@
-// credit: the tray down (document 01, "The seventeen calls"). The number function asks the list's conditions in its order.
+// credit: the tray down (document 01, "The seventeen calls"). For every table and amount its outcome is that of cashier_spec/specs/Credit.antt.
 ghost use mathlib.Core.Path.{_≡_};
 ghost use Rattle.call.specs.Refusal.{first};
 ghost use Rattle.answer.specs.Outcome.{outcome};
 ghost use Rattle.cashier_spec.specs.Credit.{creditConditions, creditEffect};
+use crate::tray::with_tray;
 use answer::outcome::Outcome;
 use broken::broken;
+use call::refusal::asked;
 use state::round::is_dealt;
 use table::Table;
 
+// The number of a credit: the conditions of its list, from the front.
 fn credit_number(t: Table, n: u64) -> u8
     ensures { λ r. ⌜ r ≡ first (creditConditions t n) ⌝ }
 {
-    if broken(t) {
-        return 1;
-    }
-    if is_dealt(t) {
-        return 4;
-    }
-    if n == 0 {
-        return 14;
-    }
-    if t.tray < n {
-        return 16;
-    }
-    0
+    asked(
+        1,
+        broken(t),
+        asked(4, is_dealt(t), asked(14, n == 0, asked(16, t.tray < n, 0))),
+    )
 }
 
 pub fn credit(t: Table, n: u64) -> Outcome
@@ -33,10 +28,8 @@ pub fn credit(t: Table, n: u64) -> Outcome
     if number != 0 {
         return Outcome { number, table: t };
     }
-    let mut next = t;
-    next.tray = t.tray - n;
     Outcome {
         number,
-        table: next,
+        table: with_tray(t, t.tray - n),
     }
 }

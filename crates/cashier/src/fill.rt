@@ -1,31 +1,34 @@
-// fill: the tray up (document 01, "The seventeen calls"). The number function asks the list's conditions in its order.
+// fill: the tray up (document 01, "The seventeen calls"). For every table and amount its outcome is that of cashier_spec/specs/Fill.antt.
 ghost use mathlib.Core.Path.{_≡_};
 ghost use Rattle.call.specs.Refusal.{first};
 ghost use Rattle.answer.specs.Outcome.{outcome};
 ghost use Rattle.cashier_spec.specs.Fill.{fillConditions, fillEffect};
+use crate::tray::with_tray;
 use answer::outcome::Outcome;
 use broken::broken;
+use call::refusal::asked;
 use money::most_money::past_most_money;
 use money::sums::table_sums;
 use state::round::is_dealt;
 use table::Table;
 
+// The number of a fill: the conditions of its list, from the front.
 fn fill_number(t: Table, n: u64) -> u8
     ensures { λ r. ⌜ r ≡ first (fillConditions t n) ⌝ }
 {
-    if broken(t) {
-        return 1;
-    }
-    if is_dealt(t) {
-        return 4;
-    }
-    if n == 0 {
-        return 14;
-    }
-    if past_most_money(t.tray, table_sums(t), n) {
-        return 14;
-    }
-    0
+    asked(
+        1,
+        broken(t),
+        asked(
+            4,
+            is_dealt(t),
+            asked(
+                14,
+                n == 0,
+                asked(14, past_most_money(t.tray, table_sums(t), n), 0),
+            ),
+        ),
+    )
 }
 
 pub fn fill(t: Table, n: u64) -> Outcome
@@ -35,10 +38,8 @@ pub fn fill(t: Table, n: u64) -> Outcome
     if number != 0 {
         return Outcome { number, table: t };
     }
-    let mut next = t;
-    next.tray = t.tray + n;
     Outcome {
         number,
-        table: next,
+        table: with_tray(t, t.tray + n),
     }
 }

@@ -1,5 +1,5 @@
-// load: a new order for the shoe (document 01, "The seventeen calls"). The lent order is only read. The number function asks the list's conditions
-// in the list's order.
+// load: a new order for the shoe (document 01, "The seventeen calls"). For every table and order its outcome is that of cashier_spec/specs/Load.antt; the
+// lent order is only read.
 ghost use mathlib.Core.Path.{_≡_};
 ghost use Rattle.call.specs.Refusal.{first};
 ghost use Rattle.table.specs.Table.{withShoe};
@@ -7,12 +7,14 @@ ghost use Rattle.answer.specs.Outcome.{outcome};
 ghost use Rattle.cashier_spec.specs.Load.{loadConditions, loadEffect};
 use answer::outcome::Outcome;
 use broken::broken;
+use call::refusal::asked;
 use card_count::valid_order::valid_order;
 use shoe::new_shoe;
 use state::round::is_dealt;
 use table::Shoe;
 use table::Table;
 
+// The table with another shoe.
 fn with_shoe(t: Table, shoe: Shoe) -> Table
     ensures { λ r. ⌜ r ≡ withShoe t shoe ⌝ }
 {
@@ -21,20 +23,16 @@ fn with_shoe(t: Table, shoe: Shoe) -> Table
     next
 }
 
+// The number of a load: the conditions of its list, from the front.
 fn load_number(t: Table, order: &[u8]) -> u8
     ensures { λ r. ⌜ r ≡ first (loadConditions t (now (order .entry))) ⌝ }
 {
     let o = t.options;
-    if broken(t) {
-        return 1;
-    }
-    if !valid_order(o.decks, order) {
-        return 3;
-    }
-    if is_dealt(t) {
-        return 4;
-    }
-    0
+    asked(
+        1,
+        broken(t),
+        asked(3, !valid_order(o.decks, order), asked(4, is_dealt(t), 0)),
+    )
 }
 
 pub fn load(t: Table, order: &[u8]) -> Outcome

@@ -1,4 +1,5 @@
-// The opening: a table with its options and a first order, or the empty table (document 01, "The seventeen calls"). The lent order is only read.
+// The opening: a table with its options and a first order, or the empty table (document 01, "The seventeen calls"). For all options and every order its
+// outcome is that of cashier_spec/specs/Opening.antt; the lent order is only read.
 ghost use mathlib.Core.Path.{_≡_};
 ghost use lib.ListN.{replicate};
 ghost use Rattle.call.specs.Refusal.{first};
@@ -8,6 +9,7 @@ ghost use Rattle.table.specs.Table.{makeTable};
 ghost use Rattle.answer.specs.Outcome.{outcome};
 ghost use Rattle.cashier_spec.specs.Opening.{openConditions, openTable, emptyTable};
 use answer::outcome::Outcome;
+use call::refusal::asked;
 use card_count::valid_order::valid_order;
 use cards::hand::empty_hand;
 use options::Options;
@@ -39,16 +41,11 @@ fn empty_table() -> Table
     table_of(no_options(), new_shoe(&[0u8; 0]))
 }
 
+// The number of an opening: the conditions of its list, from the front.
 fn open_number(o: Options, order: &[u8]) -> u8
     ensures { λ r. ⌜ r ≡ first (openConditions o (now (order .entry))) ⌝ }
 {
-    if !in_range(o) {
-        return 2;
-    }
-    if valid_order(o.decks, order) {
-        return 0;
-    }
-    3
+    asked(2, !in_range(o), asked(3, !valid_order(o.decks, order), 0))
 }
 
 // A table with these options and this order, or the empty table.

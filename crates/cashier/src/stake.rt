@@ -1,15 +1,18 @@
-// stake: from purse to layout, one per seat a round (document 01, "The seventeen calls"). The number function asks the list's conditions in its order.
+// stake: from purse to layout, one per seat a round (document 01, "The seventeen calls"). For every table, seat and amount its outcome is that of
+// cashier_spec/specs/Stake.antt.
 ghost use mathlib.Core.Path.{_≡_};
 ghost use Prim.Native.Nat.{_-_, _≤_};
 ghost use Rattle.call.specs.Refusal.{first};
 ghost use Rattle.answer.specs.Outcome.{outcome};
 ghost use Rattle.table.specs.Seat.{purse, makeSeat, money as moneyOf, insurance};
 ghost use Rattle.cashier_spec.specs.Stake.{stakeConditions, stakeEffect};
-use crate::between::between_number;
+use answer::conditions::seat_number;
 use answer::outcome::Outcome;
 use broken::broken;
 use call::At;
+use call::refusal::asked;
 use options::permitted::stake_permitted;
+use state::round::is_dealt;
 use state::seat::seat_at;
 use state::seat::with_seat;
 use table::Seat;
@@ -28,29 +31,26 @@ fn staked(s: Seat, n: u64) -> Seat
     next
 }
 
+// The number of a stake: what every call of a seat asks first, then the rest of its list. A seat is taken only where there is one.
 fn stake_number(t: Table, at: At, n: u64) -> u8
     ensures { λ r. ⌜ r ≡ first (stakeConditions t (at .seat) n) ⌝ }
 {
     let o = t.options;
-    let early = between_number(broken(t), t, at);
+    let early = seat_number(broken(t), 4, is_dealt(t), o.seats, at.seat);
     if early != 0 {
         return early;
     }
     let s = seat_at(t, at.seat as usize);
     let money = s.money;
-    if 0 < money.stake {
-        return 9;
-    }
-    if n == 0 {
-        return 14;
-    }
-    if !stake_permitted(o, n) {
-        return 14;
-    }
-    if money.purse < n {
-        return 15;
-    }
-    0
+    asked(
+        9,
+        0 < money.stake,
+        asked(
+            14,
+            n == 0,
+            asked(14, !stake_permitted(o, n), asked(15, money.purse < n, 0)),
+        ),
+    )
 }
 
 pub fn stake(t: Table, at: At, n: u64) -> Outcome

@@ -1,6 +1,6 @@
--- The opening, and the calls of the house, the cashier and the guest between rounds.
+-- The definitions of the opening and of the calls between rounds: the house's fill, credit and load, the cashier's buy and cash, the guest's stake. For
+-- each a list of conditions with their numbers, in document 01's order, and the effect of an accepted call on the table.
 pub mod Opening
-pub mod Between
 pub mod Fill
 pub mod Credit
 pub mod Buy

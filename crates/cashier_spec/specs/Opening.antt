@@ -1,4 +1,5 @@
--- Document 01, "The seventeen calls": opening takes the options and a first order, which counts as a load; tray and purses are 0.
+-- Document 01, "The seventeen calls": "Opening takes the options and a first order, which counts as a load; tray and purses are 0", and "Who can bring
+-- about which number": "A refused opening gives the empty table". The opening's conditions, and its two tables.
 use mathlib.Core.Bool.{not, cond}
 use mathlib.Core.List.{List, [], _∷_}
 use Prim.Native.Nat.{ℕ}

@@ -1,1 +1,2 @@
-// The definitions of these calls; their code comes with the table in code.
+// No code: this crate has the definitions of the opening and of the calls between rounds (specs/), and the lemmas that an accepted one keeps a table good
+// (proofs/). The crate cashier has their code.

@@ -1,8 +1,8 @@
--- The effect of close, part by part.
+-- The effect of close and what it shows, each from the parts that the code makes.
 use mathlib.Core.Path.{_≡_, _∙_, ap}
 use mathlib.Core.List.{map, _++_}
 use Prim.Native.Nat.{ℕ, _+_, _-_}
-use Rattle.lists.specs.Sum.{sum}
+use Rattle.lists.specs.Sum.{sumOf}
 use Rattle.cards.specs.declared.hand.Hand.{Hand}
 use Rattle.cards.specs.Hand.{cardsOf, emptyHand}
 use Rattle.payment.specs.declared.bank.Score.{Score}
@@ -11,11 +11,11 @@ use Rattle.table.specs.declared.Shoe.{Shoe}
 use Rattle.table.specs.declared.Table.{Table}
 use Rattle.table.specs.Shoe.{withDrawn, discard}
 use Rattle.table.specs.Table.{makeTable, handCards}
+use Rattle.table.specs.Aids.WithSeats.{withSeats}
 use Rattle.table.specs.Money.{layout}
-use Rattle.answer.specs.declared.PayLines.{PayLines}
+use Rattle.answer.specs.declared.settlement.PayLines.{PayLines}
 use Rattle.answer.specs.Settlement.{makeSettlement, linesOf}
 use Rattle.answer.specs.Reply.{makeReplyView, makeReply, viewOf}
-use Rattle.table.specs.Table.{withSeats}
 use Rattle.close_spec.specs.BankDraw.{burntAtClose, bankAtClose, closeTakes}
 use Rattle.close_spec.specs.PayLines.{allLines}
 use Rattle.close_spec.specs.Close.{closeScore, seatBack, paidSeat, closeEffect, closeShown}
@@ -28,7 +28,7 @@ pub close-is : (t u : Table) (score : Score) (laid back : ℕ) (none : Hand) (sh
     → score ≡ closeScore t
     → u ≡ withSeats t (map (paidSeat (t .options) score) (t .seats))
     → laid ≡ layout t
-    → back ≡ sum (seatBack (t .options) score) (t .seats)
+    → back ≡ sumOf (seatBack (t .options) score) (t .seats)
     → none ≡ emptyHand
     → shoe ≡ discard (withDrawn (t .shoe) (closeTakes t)) (burntAtClose t ++ handCards t ++ bankAtClose t)
     → makeTable (u .options) (t .tray + laid - back) (u .seats) none shoe ≡ closeEffect t

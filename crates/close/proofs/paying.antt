@@ -1,2 +1,2 @@
--- What goes back at close: how much at most, and what a sound table's purses can take.
+-- What goes back at close: how much at most.
 pub mod Back

@@ -1,3 +1,2 @@
--- What the parts of an accepted close ask.
--- What only proofs and the contracts of private functions cite: nothing here has to be believed.
+-- What the parts of an accepted close know, and a seat at the end of a round, for the contracts of private functions.
 pub mod Aids

@@ -1,4 +1,4 @@
-// The cards at the end of a close: all that were drawn become discards (document 01, "The seventeen calls").
+// The shoe after a close: all cards that were drawn are discards (document 01, "The seventeen calls", close).
 ghost use mathlib.Core.Path.{_≡_};
 ghost use mathlib.Core.List.{_++_};
 ghost use Rattle.table.specs.Shoe.{withDrawn, discard};
@@ -6,18 +6,17 @@ ghost use Rattle.table.specs.Table.{handCards};
 ghost use Rattle.close_spec.specs.BankDraw.{burntAtClose, bankAtClose, closeTakes};
 ghost use Rattle.close.specs.Aids.Closes.{Closes};
 use crate::bank_draw::bank_burn;
+use crate::discards::discard_hand;
+use crate::discards::discard_seats;
 use cards::hand::Hand;
 use cards::hand::held;
 use deal::burn::burn;
-use shoe::discards::discard_hand;
 use shoe::with_drawn;
-use shoe::gathering::discard_seats;
 use table::Shoe;
 use table::Table;
 
-// The shoe once the burnt card, the hands' cards by seat and place and the bank's are discards. Public for close alone: so it asks for what an
-// accepted close knows.
-pub fn closed_shoe(t: Table, bank: Hand) -> Shoe
+// The shoe once the burnt card, the hands' cards by seat and place and the bank's are discards. It asks for what an accepted close knows.
+pub(crate) fn closed_shoe(t: Table, bank: Hand) -> Shoe
     requires { ⌜ Closes t bank ⌝ }
     ensures { λ r. ⌜ r ≡ discard (withDrawn (t .shoe) (closeTakes t)) (burntAtClose t ++ handCards t ++ bankAtClose t) ⌝ }
 {

@@ -1,8 +1,11 @@
-// close: the bank's cards are drawn, all is paid and all cards become discards (document 01, "The seventeen calls" and "Payment").
-pub mod bank_draw;
-pub mod clearing;
-pub mod pay_lines;
-pub mod paying;
+// close: the bank's cards are drawn, all is paid and all cards become discards (document 01, "The seventeen calls" and "Payment"). Beside it stands
+// `void`, which ends a round too; the other modules are their parts, and only these two calls are public.
+mod bank_draw;
+mod clearing;
+mod discards;
+mod pay_lines;
+mod paying;
+mod seats;
 pub mod void;
 
 ghost use mathlib.Core.Path.{_≡_};
@@ -19,14 +22,16 @@ ghost use Rattle.close.specs.Aids.Closes.{Closes};
 use crate::bank_draw::bank_at_close;
 use crate::clearing::closed_shoe;
 use crate::pay_lines::all_lines;
-use crate::paying::paid_seats;
 use crate::paying::seats_back;
-use answer::Answer;
-use answer::Settlement;
-use answer::Reply;
+use crate::seats::Ending;
+use crate::seats::ended_seats;
 use answer::outcome::Outcome;
-use answer::plain_reply;
+use answer::reply::Answer;
+use answer::reply::Reply;
+use answer::reply::plain_reply;
+use answer::settlement::Settlement;
 use broken::broken;
+use call::refusal::asked;
 use cards::hand::Hand;
 use cards::hand::empty_hand;
 use money::sums::table_sums;
@@ -42,16 +47,8 @@ fn early_number(t: Table) -> u8
     ensures same { λ r. ⌜ first (closeConditions t) ≡ cond (eqb r 0) (cond (mustDraw (bankAtClose t)) 18 0) r ⌝ }
     ensures sound { λ r. ⌜ (r ≡ 0 → Sound t) ⌝ }
 {
-    if broken(t) {
-        return 1;
-    }
-    if !is_dealt(t) {
-        return 5;
-    }
-    if seat_in_turn(t) < 9 {
-        return 7;
-    }
-    0
+    let turn = seat_in_turn(t);
+    asked(1, broken(t), asked(5, !is_dealt(t), asked(7, turn < 9, 0)))
 }
 
 // The table after an accepted close: what lay on the layout goes to the tray, what goes back comes from it.
@@ -61,7 +58,7 @@ fn closed(t: Table, bank: Hand, score: Score) -> Table
     ensures { λ r. ⌜ r ≡ closeEffect t ⌝ }
 {
     let sums = table_sums(t);
-    let mut next = paid_seats(t, score);
+    let mut next = ended_seats(t, Ending::Paid(score));
     next.tray = t.tray + sums.laid - seats_back(t, score);
     next.bank = empty_hand();
     next.shoe = closed_shoe(t, bank);

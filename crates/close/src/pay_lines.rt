@@ -4,10 +4,11 @@ ghost use Prim.Native.Nat.{_+_, _≤_};
 ghost use Rattle.rules.specs.SeatHand.{handsOf};
 ghost use Rattle.payment.specs.Pay.{net};
 ghost use Rattle.close_spec.specs.PayLines.{handLines, insuranceLines, seatLines, allLines};
-ghost use Rattle.answer.specs.Settlement.{linesOf, withLines};
-use answer::PayLines;
-use answer::empty_lines;
-use answer::with_line;
+ghost use Rattle.answer.specs.Settlement.{linesOf};
+ghost use Rattle.answer.specs.Aids.WithLines.{withLines};
+use answer::settlement::PayLines;
+use answer::settlement::empty_lines;
+use answer::settlement::with_line;
 use call::HAND;
 use call::INSURANCE;
 use call::PayLine;
@@ -88,7 +89,7 @@ fn seat_lines(l: PayLines, o: Options, bank: Score, seat: u8, s: Seat) -> PayLin
 }
 
 // The lines of all seats: at most five each, so that the 45 places are enough for every table, a damaged one too.
-pub fn all_lines(t: Table, bank: Score) -> PayLines
+pub(crate) fn all_lines(t: Table, bank: Score) -> PayLines
     ensures { λ r. ⌜ linesOf r ≡ allLines (t .options) bank 0 (t .seats) ⌝ }
 {
     let o = t.options;

@@ -1,4 +1,5 @@
--- Each hand and each insurance has exactly one line: the seat's number parts the seats' lines, the place a seat's hands, and the kind hands and insurance.
+-- Each hand and each insurance has exactly one line: the seat's number parts the seats' lines, the place a seat's hands, and the kind hands and
+-- insurance.
 use mathlib.Core.Path.{_≡_, refl, sym, _∙_}
 use mathlib.Core.Bool.{Bool, true, false, cond, _&&_, and-comm, and-true, and-false}
 use mathlib.Core.List.{List, [], _∷_, _++_, append-nil}

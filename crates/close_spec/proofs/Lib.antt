@@ -1,9 +1,10 @@
--- Close keeps the table good: the bank's cards, what goes back to a seat, that the tray pays it, and the whole call. Its pay lines, each exactly once.
-pub mod Bank
+-- Close and void keep a table good: sound, and in agreement with the history. Before them the bank's cards, what goes back to a seat, and that the
+-- tray pays it; beside them that each pay line is there exactly once.
+pub mod BankDraw
 pub mod Nets
 pub mod Tray
 pub mod Taken
-pub mod Closes
-pub mod Lines
+pub mod Close
+pub mod PayLines
 pub mod EachOnce
 pub mod Void

@@ -10,7 +10,7 @@ use lib.Dec.{eqb}
 use lib.IntN.{ℤ}
 use lib.ListN.{length}
 use borrow.Author.Tests.{eqb-true, ne-eqb}
-use Rattle.lists.specs.Sum.{sum}
+use Rattle.lists.specs.Sum.{sumOf}
 use Rattle.lists.proofs.Sums.{sum-none}
 use Rattle.lists.proofs.Differences.{Diff, diff-pos, diff-add, diff-sub}
 use Rattle.options.specs.declared.Options.{Options}
@@ -35,8 +35,8 @@ diff-to {z} d e f = subst₂ (λ (a b : ℕ). Diff z a b) e f d
 net-diff : (p : Pay) → Diff (net p) (p .back) (p .laid)
 net-diff p = diff-to (diff-sub (diff-pos (p .back)) (diff-pos (p .laid))) (omega arith) (omega arith)
 
-pub nets-diff : (o : Options) (opening : List ℕ) (bank : Score) (S : ℕ) (hs : List Played) → Diff (handNets o opening bank S hs) (sum (λ h. handPay o bank S h .back) hs) (sum (wager S) hs)
-unfolding sum
+pub nets-diff : (o : Options) (opening : List ℕ) (bank : Score) (S : ℕ) (hs : List Played) → Diff (handNets o opening bank S hs) (sumOf (λ h. handPay o bank S h .back) hs) (sumOf (wager S) hs)
+unfolding sumOf
 nets-diff o opening bank S [] = diff-pos 0
 nets-diff o opening bank S (h ∷ hs) = diff-add (net-diff (handPay o bank S h)) (nets-diff o opening bank S hs)
 
@@ -53,11 +53,11 @@ module _ (o : Options) (ace : Bool) (i : ℕ) (s : Seat) (sound : SoundSeat o tr
       go (yes h) = omega arith
       go (no h) = insurance-most o (stake s) (insurance s) (sound .insured (omega arith) .permitted)
 
-  pub laid-wagers : length (s .hands .places) ≡ 4 → o .hands ≤ 4 → laid s ≡ sum (wager (stake s)) (hands s) + insurance s
-  unfolding laid sum
+  pub laid-wagers : length (s .hands .places) ≡ 4 → o .hands ≤ 4 → laid s ≡ sumOf (wager (stake s)) (hands s) + insurance s
+  unfolding laid sumOf
   laid-wagers four few = go (decLe (s .hands .many) 0)
     where
-      go : Dec (s .hands .many ≤ 0) → laid s ≡ sum (wager (stake s)) (hands s) + insurance s
+      go : Dec (s .hands .many ≤ 0) → laid s ≡ sumOf (wager (stake s)) (hands s) + insurance s
       go (yes h) =
           let none : s .hands .many ≡ 0 = omega arith in
           let unstaked = sound .waiting none refl in
@@ -67,15 +67,15 @@ module _ (o : Options) (ace : Bool) (i : ℕ) (s : Seat) (sound : SoundSeat o tr
           simp (ne-eqb (length (hands s)) 0 (λ none. omega arith))
 
   -- whatever the length of its places, those are at most what it laid
-  wagers-most : sum (wager (stake s)) (hands s) + insurance s ≤ laid s
+  wagers-most : sumOf (wager (stake s)) (hands s) + insurance s ≤ laid s
   unfolding laid
   wagers-most = go (eqb (length (hands s)) 0) refl
     where
-      go : (none : Bool) → eqb (length (hands s)) 0 ≡ none → sum (wager (stake s)) (hands s) + insurance s ≤ laid s
+      go : (none : Bool) → eqb (length (hands s)) 0 ≡ none → sumOf (wager (stake s)) (hands s) + insurance s ≤ laid s
       go true e =
           let empty : length (hands s) ≡ 0 = eqb-true (length (hands s)) 0 e in
           simp e (omega (arith, insured-most, sum-none (wager (stake s)) (hands s) (playedOf missingPlace) (λ p h. absurd (omega arith))))
-      go false e = simp e (le-refl (sum (wager (stake s)) (hands s) + insurance s))
+      go false e = simp e (le-refl (sumOf (wager (stake s)) (hands s) + insurance s))
 
   -- so what goes back to it, with its prizes, is at most what it laid and its cover
   pub back-most : o .hands ≤ 4 → (bank : Score) → seatBack o bank s + prizes o s ≤ laid s + seatCover s

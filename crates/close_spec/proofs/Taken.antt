@@ -7,7 +7,7 @@ use native.Mathlib.Omega.{arith}
 use lib.ListN.{length, getD, take, drop, length-take, length-drop}
 use lib.Seq.{take-add, length-take-le}
 use borrow.Author.Tests.{ltb-true}
-use Rattle.lists.specs.Sum.{sum}
+use Rattle.lists.specs.Sum.{sumOf}
 use Rattle.lists.proofs.Sums.{sum-append}
 use Rattle.payment.specs.Bank.{mustDraw}
 use Rattle.table.specs.declared.Table.{Table}
@@ -16,7 +16,7 @@ use Rattle.table.specs.Table.{handCards, bankCards, isDealt, up, tableOrder, ta
 use Rattle.table.specs.Aids.Sound.{Sound}
 use Rattle.history.specs.Cards.{Cards, bankTaken, bankFinal}
 use Rattle.close_spec.specs.BankDraw.{bankBurn, bankTakes, burntAtClose, bankAtClose, closeTakes}
-use Rattle.close_spec.proofs.Bank.{known, bank-same, bank-enough, bank-new}
+use Rattle.close_spec.proofs.BankDraw.{known, bank-same, bank-enough, bank-new}
 
 list-of-one : (xs : List ℕ) → length xs ≡ 1 → xs ≡ getD xs 0 0 ∷ []
 list-of-one [] e = absurd (omega arith)
@@ -87,18 +87,18 @@ module _ (t : Table) (sound : Sound t) (dealt : isDealt t ≡ true) (stands : mu
         sound .drawn,
       )
 
-  pub moved : (w : ℕ → ℕ) → sum w (closedCards t) ≡ sum w (handCards t ++ bankCards t) + sum w (take (closeTakes t) (tableShoe t))
+  pub moved : (w : ℕ → ℕ) → sumOf w (closedCards t) ≡ sumOf w (handCards t ++ bankCards t) + sumOf w (take (closeTakes t) (tableShoe t))
   moved w =
       let new = take (taken t) (behind t) in
       omega (
         arith,
         sum-append w (burntAtClose t ++ handCards t) (bankAtClose t),
         sum-append w (burntAtClose t) (handCards t),
-        ap (sum w) at-close,
+        ap (sumOf w) at-close,
         sum-append w (up t ∷ []) new,
-        ap (sum w) one-bank,
+        ap (sumOf w) one-bank,
         sum-append w (handCards t) (bankCards t),
-        ap (λ (n : ℕ). sum w (take n (tableShoe t))) takes,
-        ap (sum w) (take-add (bankBurn (t .options)) (taken t) (tableShoe t)),
+        ap (λ (n : ℕ). sumOf w (take n (tableShoe t))) takes,
+        ap (sumOf w) (take-add (bankBurn (t .options)) (taken t) (tableShoe t)),
         sum-append w (burntAtClose t) new,
       )

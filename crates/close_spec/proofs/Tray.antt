@@ -5,7 +5,7 @@ use mathlib.Core.Bool.{Bool, true}
 use Prim.Native.Nat.{ℕ, _+_, _≤_, _<_}
 use native.Mathlib.Omega.{arith}
 use lib.ListN.{length}
-use Rattle.lists.specs.Sum.{sum}
+use Rattle.lists.specs.Sum.{sumOf}
 use Rattle.lists.proofs.Sums.{sum-plus, sum-at-most}
 use Rattle.cards.specs.Card.{isAce}
 use Rattle.payment.specs.declared.bank.Score.{Score}
@@ -27,7 +27,7 @@ module _ (t : Table) (sound : Sound t) where
     pub dealt-seat : (i : ℕ) → i < 9 → SoundSeat (t .options) true (isAce (up t)) i (seatAt t i)
     dealt-seat i h = subst (λ (d : Bool). SoundSeat (t .options) d (isAce (up t)) i (seatAt t i)) dealt (sound .seats i h)
 
-    pub tray-pays : length (t .seats) ≡ 9 → (bank : Score) → sum (seatBack (t .options) bank) (t .seats) ≤ t .tray + layout t
+    pub tray-pays : length (t .seats) ≡ 9 → (bank : Score) → sumOf (seatBack (t .options) bank) (t .seats) ≤ t .tray + layout t
     tray-pays nine bank =
         omega (
           arith,

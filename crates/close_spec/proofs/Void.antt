@@ -1,33 +1,49 @@
--- An accepted void keeps the table good: each seat has back what it laid, less its prizes, which the tray has back, and the cards are discards.
+-- An accepted void keeps the table good: each seat has back what it laid, less its prizes, which the tray has back, and the cards are discards. What
+-- it finds is one record, a fact for each condition.
 use mathlib.Core.Path.{_≡_, refl}
+use mathlib.Core.Bool.{true}
 use mathlib.Core.List.{List, _∷_, _++_}
 use Prim.Native.Nat.{ℕ, _+_, _≤_}
 use native.Mathlib.Decide.{decLe}
 use native.Mathlib.Omega.{arith}
 use lib.IntN.{pos}
 use lib.ListN.{List·getD-eq-default}
-use Rattle.lists.specs.Sum.{sum}
-use Rattle.lists.specs.Tests.{all}
+use borrow.Author.Tests.{not-false}
+use Rattle.lists.specs.Sum.{sumOf}
+use Rattle.lists.specs.Tests.{allOf}
 use Rattle.lists.proofs.Sums.{sum-plus, sum-at-same}
 use Rattle.lists.proofs.Differences.{diff-pos, diff-sub}
 use Rattle.call.specs.declared.Call.the-variants.{Void}
 use Rattle.call.specs.Refusal.{first}
+use Rattle.call.proofs.Refusals.{none-hold}
 use Rattle.options.specs.declared.Options.{Options}
 use Rattle.table.specs.declared.Seat.{Seat}
 use Rattle.table.specs.declared.Table.{Table}
 use Rattle.table.specs.Seat.{missingSeat, purse, laid, prizes}
-use Rattle.table.specs.Table.{seatAt, handCards, bankCards}
+use Rattle.table.specs.Table.{seatAt, someStaked, handCards, bankCards}
 use Rattle.table.specs.Money.{allMoney}
 use Rattle.table.specs.Shape.{Shaped}
 use Rattle.table.specs.Aids.Sound.{Sound, HoldsNothing}
-use Rattle.table.proofs.Facts.{laid-stake, no-prizes}
+use Rattle.table.proofs.Facts.{unbroken, laid-stake, no-prizes}
 use Rattle.table.proofs.RoundEnd.{RoundEnd, end-shaped, end-sound}
-use Rattle.history.specs.Entry.{Entry, entry}
+use Rattle.history.specs.Entry.{Entry}
+use Rattle.history.specs.Aids.MakeEntry.{entry}
 use Rattle.history.specs.Cards.{callTakes}
 use Rattle.history.specs.Money.{laidIn, prizesIn, purseOf}
 use Rattle.agreement.specs.Aids.Agrees.{Good}
 use Rattle.agreement.proofs.EndOfRound.{Ends, ends, EndCall, purse-end, end-call}
 use Rattle.close_spec.specs.Void.{voidConditions, voidSeat, voidEffect}
+
+-- what an accepted void finds: a fact for each condition of its list
+pub record VoidAccepted (t : Table) : Type 0 where
+  pub sound : Sound t
+  pub some : someStaked t ≡ true
+
+pub void-accepted : (t : Table) → first (voidConditions t) ≡ 0 → VoidAccepted t
+unfolding voidConditions allOf
+void-accepted t e =
+    let (whole, (some, _)) = none-hold (voidConditions t) refl e in
+    record { sound = unbroken t whole; some = not-false (someStaked t) some }
 
 -- a seat's purse after a void
 abbrev purseBack : Options → Seat → ℕ
@@ -44,7 +60,7 @@ prizes-within t shaped sound i = go (decLe 9 i)
     go (yes h) = rw (List·getD-eq-default (t .seats) missingSeat {n = i} (omega arith)) (omega (arith, no-prizes (t .options) missingSeat refl))
     go (no h) = sound .seats i (omega arith) .prizes-back
 
-void-paid : (t : Table) → Shaped t → Sound t → voidEffect t .tray + sum (purseBack (t .options)) (t .seats) ≡ allMoney t
+void-paid : (t : Table) → Shaped t → Sound t → voidEffect t .tray + sumOf (purseBack (t .options)) (t .seats) ≡ allMoney t
 unfolding voidEffect
 void-paid t shaped sound =
     let o = t .options in
@@ -56,11 +72,11 @@ void-paid t shaped sound =
     )
 
 void-ends : (order : List ℕ) → Ends (entry Void order)
-unfolding all
+unfolding allOf
 void-ends order = ends (entry Void order) refl refl
 
 round-end : (t : Table) → Shaped t → Sound t → RoundEnd t (voidEffect t .tray) (purseBack (t .options)) (voidEffect t .shoe) 0 (handCards t ++ bankCards t)
-unfolding sum voidEffect
+unfolding sumOf voidEffect
 round-end t shaped sound =
     record {
       paid = void-paid t shaped sound;

@@ -1,4 +1,5 @@
--- Document 01, close: bank's burn if the option is 2, the bank's second card, then cards while its total is 16 or less, even if every hand is bust.
+-- Document 01, close: bank's burn if the option is 2, the bank's second card, then cards while its total is 16 or less, even if every hand is bust
+-- (articles 4 and 6).
 use mathlib.Core.Bool.{cond}
 use mathlib.Core.List.{List, [], _∷_, _++_}
 use Prim.Native.Nat.{ℕ, _+_, _-_}

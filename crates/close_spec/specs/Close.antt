@@ -1,8 +1,8 @@
--- close: the bank's cards are drawn, all is paid and all cards become discards.
+-- Document 01, "The seventeen calls", close: the bank's cards are drawn, then all is paid and all cards become discards (articles 7 and 9 to 12).
+-- Here are its numbers, the table after it, and what it returns: the bank's cards and the pay lines.
 use mathlib.Core.List.{List, [], _∷_, _++_, map}
-use mathlib.Core.Bool.{not}
 use Prim.Native.Nat.{ℕ, _+_, _-_}
-use Rattle.lists.specs.Sum.{sum}
+use Rattle.lists.specs.Sum.{sumOf}
 use Rattle.call.specs.Refusal.{Condition}
 use Rattle.call.specs.Answer.{Shown}
 use Rattle.cards.specs.Hand.{emptyHand}
@@ -14,11 +14,12 @@ use Rattle.payment.specs.HandPay.{handPay}
 use Rattle.payment.specs.Insurance.{insurancePay}
 use Rattle.table.specs.declared.Seat.{Seat}
 use Rattle.table.specs.declared.Table.{Table}
-use Rattle.table.specs.Seat.{money, makeSeat, emptyHands, purse, stake, insurance, hands}
+use Rattle.table.specs.Seat.{clearedSeat, purse, stake, insurance, hands}
 use Rattle.table.specs.Shoe.{withDrawn, discard}
-use Rattle.table.specs.Table.{makeTable, seatsHands, handCards, isDealt, up}
+use Rattle.table.specs.Table.{makeTable, seatsHands, handCards, up}
 use Rattle.table.specs.Money.{layout}
 use Rattle.table.specs.Broken.{broken}
+use Rattle.answer.specs.Conditions.{inRound}
 use Rattle.close_spec.specs.BankDraw.{burntAtClose, bankAtClose, closeTakes}
 use Rattle.close_spec.specs.PayLines.{allLines}
 
@@ -26,7 +27,7 @@ use Rattle.close_spec.specs.PayLines.{allLines}
 unfoldable pub closeConditions : Table → List Condition
 closeConditions t =
     (1, broken t)
-    ∷ (5, not (isDealt t))
+    ∷ inRound t
     ∷ (7, someWaits (t .options) (up t) (seatsHands t))
     ∷ (18, mustDraw (bankAtClose t))
     ∷ []
@@ -36,15 +37,15 @@ abbrev pub closeScore : Table → Score
 closeScore t = scoreOf (bankAtClose t)
 
 unfoldable pub seatBack : Options → Score → Seat → ℕ
-seatBack o bank s = sum (λ h. handPay o bank (stake s) h .back) (hands s) + insurancePay bank (insurance s) .back
+seatBack o bank s = sumOf (λ h. handPay o bank (stake s) h .back) (hands s) + insurancePay bank (insurance s) .back
 
 abbrev pub paidSeat : Options → Score → Seat → Seat
-paidSeat o bank s = makeSeat (money (purse s + seatBack o bank s) 0 0) emptyHands
+paidSeat o bank s = clearedSeat (purse s + seatBack o bank s)
 
 -- What lay on the layout goes to the tray, what goes back comes from it. Discards: the burnt card, hands by seat and place, the bank.
 unfoldable pub closeEffect : Table → Table
 closeEffect t =
-    makeTable (t .options) (t .tray + layout t - sum (seatBack (t .options) (closeScore t)) (t .seats))
+    makeTable (t .options) (t .tray + layout t - sumOf (seatBack (t .options) (closeScore t)) (t .seats))
     (map (paidSeat (t .options) (closeScore t)) (t .seats))
     emptyHand
     (discard (withDrawn (t .shoe) (closeTakes t)) (burntAtClose t ++ handCards t ++ bankAtClose t))

@@ -1,4 +1,5 @@
--- Close: the bank's cards, the pay lines and the end of the round.
+-- Document 01, "The seventeen calls" and "Payment": the two calls that end a round. Close with the bank's cards and the pay lines, each exactly
+-- once; void.
 pub mod BankDraw
 pub mod PayLines
 pub mod EachOnce

@@ -1,4 +1,5 @@
--- void: a misdeal (article 5). Each seat gets back what it laid in this round and returns its prizes. Drawn cards become discards.
+-- Document 01, "The seventeen calls", void: a misdeal (article 5). Each seat gets back what it laid in this round and returns its prizes. Drawn cards
+-- become discards.
 use mathlib.Core.Bool.{not}
 use mathlib.Core.List.{List, [], _∷_, _++_, map}
 use Prim.Native.Nat.{_+_, _-_}
@@ -7,7 +8,7 @@ use Rattle.cards.specs.Hand.{emptyHand}
 use Rattle.options.specs.declared.Options.{Options}
 use Rattle.table.specs.declared.Seat.{Seat}
 use Rattle.table.specs.declared.Table.{Table}
-use Rattle.table.specs.Seat.{money, makeSeat, emptyHands, purse, laid, prizes}
+use Rattle.table.specs.Seat.{clearedSeat, purse, laid, prizes}
 use Rattle.table.specs.Shoe.{discard}
 use Rattle.table.specs.Table.{makeTable, someStaked, handCards, bankCards}
 use Rattle.table.specs.Money.{allPrizes}
@@ -17,7 +18,7 @@ unfoldable pub voidConditions : Table → List Condition
 voidConditions t = (1, broken t) ∷ (6, not (someStaked t)) ∷ []
 
 abbrev pub voidSeat : Options → Seat → Seat
-voidSeat o s = makeSeat (money (purse s + laid s - prizes o s) 0 0) emptyHands
+voidSeat o s = clearedSeat (purse s + laid s - prizes o s)
 
 unfoldable pub voidEffect : Table → Table
 voidEffect t =

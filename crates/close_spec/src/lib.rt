@@ -1,1 +1,1 @@
-// The definitions of these calls; their code comes with the table in code.
+// The definitions of close and void and their lemmas. There is no code here: it is in the crate `close`.

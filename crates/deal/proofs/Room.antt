@@ -1,17 +1,13 @@
 -- An accepted deal: the cards that it takes are left, and there is room for those that it burns.
-use mathlib.Core.Path.{_≡_, refl}
-use mathlib.Core.Bool.{false}
-use Prim.Native.Nat.{ℕ, _+_, _*_, _≤_}
+use mathlib.Core.Path.{_≡_}
+use Prim.Native.Nat.{_+_, _*_, _≤_}
 use native.Mathlib.Omega.{arith}
-use lib.ListN.{length, getD}
-use borrow.Author.Tests.{ltb-false}
-use Rattle.lists.specs.Tests.{all}
+use lib.ListN.{length}
 use Rattle.call.specs.Refusal.{first}
-use Rattle.call.proofs.Refusals.{accepted-at}
 use Rattle.table.specs.declared.Table.{Table}
-use Rattle.table.specs.Table.{cardsLeft}
-use Rattle.table.proofs.Facts.{unbroken, decks-416, room-discards}
+use Rattle.table.proofs.Facts.{decks-416, room-discards}
 use Rattle.deal_spec.specs.Deal.{burnt, dealTakes, dealConditions}
+use Rattle.deal_spec.proofs.DealAccepted.{deal-accepted}
 
 pub record Room (t : Table) : Type 0 where
   pub enough : t .shoe .drawn + dealTakes t ≤ 52 * t .options .decks
@@ -20,13 +16,12 @@ pub record Room (t : Table) : Type 0 where
   pub discards : t .shoe .discarded ≤ t .shoe .drawn
 
 pub deal-room : (t : Table) → length (t .shoe .discards) ≡ 416 → first (dealConditions t) ≡ 0 → Room t
-unfolding dealConditions dealTakes all
+unfolding dealTakes
 deal-room t full e =
-    let at : (k : ℕ) → getD (dealConditions t) k (0, false) .1 ≡ false = λ k. accepted-at (dealConditions t) k refl e in
-    let sound = unbroken t (at 0) in
+    let ok = deal-accepted t e in
     record {
-      enough = omega (arith, sound .drawn, ltb-false (cardsLeft t) (dealTakes t) (at 5));
+      enough = ok .enough;
       burn = omega arith;
-      decks = decks-416 t sound;
-      discards = omega (arith, room-discards t full sound);
+      decks = decks-416 t (ok .sound);
+      discards = omega (arith, room-discards t full (ok .sound));
     }

@@ -1,2 +1,2 @@
--- The step of a pass over the seats.
+-- The step of a pass over the seats, for its loop.
 pub mod Next

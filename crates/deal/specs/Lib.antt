@@ -1,3 +1,2 @@
--- The two passes of a deal as one rule.
--- What only proofs and the contracts of private functions cite: nothing here has to be believed.
+-- The two passes of a deal as one rule, for the contracts of private functions.
 pub mod Aids

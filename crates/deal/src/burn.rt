@@ -1,4 +1,5 @@
-// How many cards a deal burns and takes, and the burning itself: cards of the shoe onto the discards (document 01, "House options").
+// How many cards a deal burns and takes, and the burning itself: cards of the shoe onto the discards (document 01, "House options"; article 4).
+// Close burns by it too.
 ghost use mathlib.Core.Path.{_≡_};
 ghost use Prim.Native.Nat.{_+_, _*_, _≤_};
 ghost use lib.ListN.{take};
@@ -12,7 +13,7 @@ use table::Shoe;
 use table::Table;
 
 // The first burn where nothing of the shoe is drawn, else the later burn. It is small also where the options are damaged.
-pub fn burn_at_deal(o: Options, sh: Shoe) -> usize
+pub(crate) fn burn_at_deal(o: Options, sh: Shoe) -> usize
     ensures same { λ r. ⌜ r ≡ burnAtDeal o sh ⌝ }
     ensures few { λ r. ⌜ r ≤ 255 ⌝ }
 {
@@ -26,7 +27,7 @@ pub fn burn_at_deal(o: Options, sh: Shoe) -> usize
 }
 
 // How many cards the deal burns and takes: two for each staked seat and one for the bank.
-pub fn deal_takes(t: Table) -> usize
+pub(crate) fn deal_takes(t: Table) -> usize
     ensures { λ r. ⌜ r ≡ dealTakes t ⌝ }
 {
     burn_at_deal(t.options, t.shoe) + 2 * staked_seats(t) + 1

@@ -1,7 +1,7 @@
-// deal: burns, then one card to each staked seat, one to the bank, and a second to each (document 01, "The seventeen calls").
-// The number function asks the list's conditions in its order.
+// deal: burns, then one card to each staked seat, one to the bank, and a second to each (document 01, "The seventeen calls"; articles 4 and 5).
+// Every table is taken: the number says why one is refused.
 pub mod burn;
-pub mod pass;
+mod pass;
 
 ghost use mathlib.Core.Path.{_≡_};
 ghost use Rattle.call.specs.Refusal.{first};
@@ -14,6 +14,7 @@ use crate::pass::pass;
 use crate::pass::staked_seats;
 use answer::outcome::Outcome;
 use broken::broken;
+use call::refusal::asked;
 use cards::hand::empty_hand;
 use cards::hand::with_card;
 use money::sums::table_sums;
@@ -26,28 +27,27 @@ use table::Table;
 fn deal_number(t: Table) -> u8
     ensures { λ r. ⌜ r ≡ first (dealConditions t) ⌝ }
 {
-    if broken(t) {
-        return 1;
-    }
-    if is_dealt(t) {
-        return 4;
-    }
-    let sums = table_sums(t);
-    if sums.cover == 0 {
-        return 6;
-    }
-    if t.tray < sums.cover {
-        return 16;
-    }
     let o = t.options;
+    let behind = o.cut as usize;
     let left = cards_left(t);
-    if left <= o.cut as usize {
-        return 17;
-    }
-    if left < deal_takes(t) {
-        return 17;
-    }
-    0
+    let sums = table_sums(t);
+    asked(
+        1,
+        broken(t),
+        asked(
+            4,
+            is_dealt(t),
+            asked(
+                6,
+                sums.cover == 0,
+                asked(
+                    16,
+                    t.tray < sums.cover,
+                    asked(17, left <= behind, asked(17, left < deal_takes(t), 0)),
+                ),
+            ),
+        ),
+    )
 }
 
 // The table after an accepted deal: the up card lies between the two passes.

@@ -25,7 +25,7 @@ fn taken(s: Seat) -> usize
 }
 
 // How many seats have a stake.
-pub fn staked_seats(t: Table) -> usize
+pub(crate) fn staked_seats(t: Table) -> usize
     ensures same { λ r. ⌜ r ≡ stakedSeats (t .seats) ⌝ }
     ensures few { λ r. ⌜ r ≤ 9 ⌝ }
 {
@@ -76,9 +76,9 @@ fn served(first: bool, s: Seat, card: u8) -> Seat
     with_next(first, s, card)
 }
 
-// One pass: each staked seat takes the next card, the first of them the card `at` behind the next one of the shoe. Public for the deal alone, whose
-// places are those of a shoe: so it asks for that.
-pub fn pass(t: Table, first: bool, at: usize) -> Table
+// One pass: each staked seat takes the next card, the first of them the card `at` behind the next one of the shoe: so `at` is asked to be
+// a place of a shoe.
+pub(crate) fn pass(t: Table, first: bool, at: usize) -> Table
     requires { ⌜ at ≤ 416 ⌝ }
     ensures { λ r. ⌜ r ≡ passed first at t ⌝ }
 {

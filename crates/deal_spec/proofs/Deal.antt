@@ -8,13 +8,11 @@ use native.Mathlib.Omega.{arith}
 use lib.Dec.{ltb, leb, eqb}
 use lib.IntN.{pos}
 use lib.ListN.{getD}
-use Rattle.lists.specs.Tests.{all}
 use lib.Seq.{getD-take, take-all}
-use borrow.Author.Tests.{ltb-false, le-leb, lt-leb, eq-eqb, ne-eqb, not-false}
+use borrow.Author.Tests.{le-leb, lt-leb, eq-eqb, ne-eqb}
 use Rattle.lists.proofs.Below.{sum-below-same, sum-below-more}
 use Rattle.call.specs.declared.Call.the-variants.{Deal}
 use Rattle.call.specs.Refusal.{first}
-use Rattle.call.proofs.Refusals.{accepted-at}
 use Rattle.cards.specs.Hand.{withCard}
 use Rattle.options.specs.declared.Options.{Options}
 use Rattle.options.specs.Aids.Facts.{InRange}
@@ -24,12 +22,12 @@ use Rattle.table.specs.declared.Shoe.{Shoe}
 use Rattle.table.specs.declared.Table.{Table}
 use Rattle.table.specs.Seat.{missingSeat, purse, stake, insurance, isStaked, hands}
 use Rattle.table.specs.Shoe.{isFresh}
-use Rattle.table.specs.Table.{seatAt, someStaked, cardsLeft}
-use Rattle.table.specs.Money.{allCover}
+use Rattle.table.specs.Table.{seatAt}
 use Rattle.table.proofs.Facts.{sound-options, no-hands, no-prizes}
 use Rattle.table.specs.Shape.{Shaped}
 use Rattle.table.specs.Aids.Sound.{Sound}
-use Rattle.history.specs.Entry.{Entry, entry}
+use Rattle.history.specs.Entry.{Entry}
+use Rattle.history.specs.Aids.MakeEntry.{entry}
 use Rattle.history.specs.Rounds.{stakeIn, stakedBelow}
 use Rattle.history.specs.Cards.{Cards, dealBurns, callTakes, bankAfter, cardsAfter, cardsOfHistory}
 use Rattle.history.specs.Hands.{played, dealtHand, handsAfter, handsIn}
@@ -40,20 +38,9 @@ use Rattle.deal_spec.specs.Burn.{firstBurn, laterBurn, burnAtDeal}
 use Rattle.deal_spec.specs.Deal.{stakedSeats, burnt, dealTakes, dealtSeats, upCard, dealConditions, dealEffect}
 use Rattle.lists.proofs.Parts.{sum-first, sum-before}
 use Rattle.lists.proofs.Tests.{cond-same}
+use Rattle.deal_spec.proofs.DealAccepted.{DealAccepted, deal-accepted}
 use Rattle.deal_spec.proofs.DealtSeat.{dealt-hands}
-use Rattle.deal_spec.proofs.DealSound.{Dealable, firstPlace, secondPlace, stakedBefore, firstOf, secondOf, dealtAt, past, no-hand-yet, staked-nine, dealt-either, laid-after, prizes-after, deal-money, deal-shaped, deal-sound}
-
--- what the conditions of an accepted deal give
-dealable : (t : Table) → t .shoe .drawn ≤ 52 * t .options .decks → first (dealConditions t) ≡ 0 → Dealable t
-unfolding dealConditions all
-dealable t within accepted =
-    let at : (k : ℕ) → getD (dealConditions t) k (0, false) .1 ≡ false = λ k. accepted-at (dealConditions t) k refl accepted in
-    record {
-      not-dealt = at 1;
-      some = not-false (someStaked t) (at 2);
-      covered = ltb-false (t .tray) (allCover t) (at 3);
-      enough = omega (arith, ltb-false (cardsLeft t) (dealTakes t) (at 5));
-    }
+use Rattle.deal_spec.proofs.DealSound.{firstPlace, secondPlace, stakedBefore, firstOf, secondOf, dealtAt, past, no-hand-yet, staked-nine, dealt-either, laid-after, prizes-after, deal-money, deal-shaped, deal-sound}
 
 -- the burn, as the history says it
 same-burn : (o : Options) (sh : Shoe) (c : Cards) → InRange o → isFresh sh ≡ c .fresh → burnAtDeal o sh ≡ dealBurns o c
@@ -68,7 +55,7 @@ same-burn o sh c f fresh = rw fresh (ap₂ (λ (a b : ℕ). cond (c .fresh) a b)
     later (yes h) = simp (eq-eqb (o .later) 0 (omega arith), lt-leb 1 (o .later) (omega arith))
     later (no h) = simp (ne-eqb (o .later) 0 (omega arith), le-leb 1 (o .later) (omega arith))
 
-module _ (opening : List ℕ) (es : List Entry) (t : Table) (order : List ℕ) (g : Good opening es t) (ok : Dealable t) where
+module _ (opening : List ℕ) (es : List Entry) (t : Table) (order : List ℕ) (g : Good opening es t) (ok : DealAccepted t) where
   abbrev e : Entry
   e = entry Deal order
 
@@ -88,7 +75,7 @@ module _ (opening : List ℕ) (es : List Entry) (t : Table) (order : List ℕ) (
   no-stake i h = sym (g .agrees .seats i .stake-is) ∙ go (decLe 9 i)
     where
       go : Dec (9 ≤ i) → stake (seatAt t i) ≡ 0
-      go (yes l) = ap stake (past t (g .shaped) (g .sound) ok i l)
+      go (yes l) = ap stake (past t (g .shaped) ok i l)
       go (no l) = g .sound .seats i (omega arith) .beyond h .no-stake
 
   staked-is : stakedSeats (t .seats) ≡ stakedBelow es (t .options .seats)
@@ -127,7 +114,7 @@ module _ (opening : List ℕ) (es : List Entry) (t : Table) (order : List ℕ) (
   hand-is : (i : ℕ) → isStaked (seatAt t i) ≡ true → hands (dealtAt t i) ≡ handsIn (t .options) opening (e ∷ es) i
   unfolding handsAfter dealtHand dealTakes
   hand-is i staked =
-      let within = staked-nine t (g .shaped) (g .sound) ok i staked in
+      let within = staked-nine t (g .shaped) ok i staked in
       let below = before-is i (omega arith) in
       let counted : one (stake (seatAt t i)) ≡ 1 = rw staked in
       let rank : stakedBefore t i < stakedSeats (t .seats) = omega (arith, sum-before (λ s. one (stake s)) (t .seats) i missingSeat (omega (arith, g .shaped .nine-seats))) in
@@ -142,7 +129,7 @@ module _ (opening : List ℕ) (es : List Entry) (t : Table) (order : List ℕ) (
 
   no-hand-is : (i : ℕ) → isStaked (seatAt t i) ≡ false → hands (seatAt t i) ≡ handsIn (t .options) opening (e ∷ es) i
   unfolding handsAfter
-  no-hand-is i none = let there : ltb 0 (stakeIn es i) ≡ false = ap (ltb 0) (sym (g .agrees .seats i .stake-is)) ∙ none in rw there (no-hands (seatAt t i) (no-hand-yet t (g .shaped) (g .sound) ok i))
+  no-hand-is i none = let there : ltb 0 (stakeIn es i) ≡ false = ap (ltb 0) (sym (g .agrees .seats i .stake-is)) ∙ none in rw there (no-hands (seatAt t i) (no-hand-yet t (g .shaped) ok i))
 
   -- money moves at no seat
   lays-none : (i S : ℕ) → lays i S e ≡ 0
@@ -161,14 +148,14 @@ module _ (opening : List ℕ) (es : List Entry) (t : Table) (order : List ℕ) (
   seat-agrees i =
       let a = g .agrees .seats i in
       let both =
-      dealt-either t (g .shaped) (g .sound) ok i (λ x. (x .money ≡ seatAt t i .money) × (hands x ≡ handsIn (t .options) opening (e ∷ es) i))
+      dealt-either t (g .shaped) ok i (λ x. (x .money ≡ seatAt t i .money) × (hands x ≡ handsIn (t .options) opening (e ∷ es) i))
       (λ staked. (refl, hand-is i staked)) (λ none. (refl, no-hand-is i none)) in
       record {
         stake-is = ap (λ (m : Money). m .stake) (both .0) ∙ a .stake-is;
         insurance-is = ap (λ (m : Money). m .insurance) (both .0) ∙ a .insurance-is;
         hands-are = both .1;
-        laid-is = omega (arith, laid-after t (g .shaped) (g .sound) ok i, a .laid-is, lays-none i (stakeIn es i));
-        prizes-are = omega (arith, prizes-after t (g .shaped) (g .sound) ok i, no-prizes (t .options) (seatAt t i) (no-hand-yet t (g .shaped) (g .sound) ok i), a .prizes-are, prize-none i);
+        laid-is = omega (arith, laid-after t (g .shaped) ok i, a .laid-is, lays-none i (stakeIn es i));
+        prizes-are = omega (arith, prizes-after t (g .shaped) ok i, no-prizes (t .options) (seatAt t i) (no-hand-yet t (g .shaped) ok i), a .prizes-are, prize-none i);
         purse-is = ap (λ (m : Money). pos (m .purse)) (both .0) ∙ purse-is i;
       }
 
@@ -179,15 +166,13 @@ module _ (opening : List ℕ) (es : List Entry) (t : Table) (order : List ℕ) (
         cards = cards-agree;
         dealt = refl;
         seats = seat-agrees;
-        balance = omega (arith, deal-money t (g .shaped) (g .sound) ok, g .agrees .balance);
+        balance = omega (arith, deal-money t (g .shaped) ok, g .agrees .balance);
       }
 
 pub deal-kept : (t : Table) → Shaped t → Sound t → first (dealConditions t) ≡ 0 → Shaped (dealEffect t) × Sound (dealEffect t)
-deal-kept t shaped sound accepted =
-    let ok = dealable t (sound .drawn) accepted in
-    (deal-shaped t shaped sound ok, deal-sound t shaped sound ok)
+deal-kept t shaped sound e = let ok = deal-accepted t e in (deal-shaped t shaped ok, deal-sound t shaped ok)
 
 pub deal-good : (opening : List ℕ) (es : List Entry) (t : Table) (order : List ℕ) → Good opening es t → first (dealConditions t) ≡ 0 → Good opening (entry Deal order ∷ es) (dealEffect t)
-deal-good opening es t order g accepted =
-    let kept = deal-kept t (g .shaped) (g .sound) accepted in
-    record { shaped = kept .0; sound = kept .1; agrees = deal-agrees opening es t order g (dealable t (g .sound .drawn) accepted) }
+deal-good opening es t order g e =
+    let ok = deal-accepted t e in
+    record { shaped = deal-shaped t (g .shaped) ok; sound = deal-sound t (g .shaped) ok; agrees = deal-agrees opening es t order g ok }

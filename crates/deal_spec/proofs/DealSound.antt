@@ -9,8 +9,8 @@ use lib.Dec.{ltb}
 use lib.ListN.{length, take, drop, getD, length-take, length-drop, List·getD-eq-default}
 use lib.Seq.{take-add, length-sets}
 use borrow.Author.Tests.{ltb-true, ltb-false}
-use Rattle.lists.specs.Sum.{sum, isIt}
-use Rattle.lists.specs.Tests.{any}
+use Rattle.lists.specs.Sum.{sumOf, isIt}
+use Rattle.lists.specs.Tests.{anyOf}
 use Rattle.lists.specs.Flat.{flat}
 use Rattle.lists.proofs.Sums.{sum-append, sum-none, sum-ones, sum-take}
 use Rattle.cards.specs.Card.{isAce}
@@ -19,8 +19,8 @@ use Rattle.table.specs.declared.Money.{Money}
 use Rattle.table.specs.declared.Seat.{Seat}
 use Rattle.table.specs.declared.Table.{Table}
 use Rattle.table.specs.Seat.{missingSeat, purse, stake, insurance, isStaked, laid, prizes, seatCards}
-use Rattle.table.specs.Table.{seatAt, isDealt, up, someStaked, bankCards, tableDrawn, tableShoe, tableDiscards}
-use Rattle.table.specs.Money.{allMoney, allCover}
+use Rattle.table.specs.Table.{seatAt, up, bankCards, tableDrawn, tableShoe, tableDiscards}
+use Rattle.table.specs.Money.{allMoney}
 use Rattle.table.specs.Faces.{outCards}
 use Rattle.table.specs.Shape.{Shaped, ShapedSeat}
 use Rattle.table.specs.Aids.Sound.{Sound, SoundSeat}
@@ -30,15 +30,9 @@ use Rattle.deal_spec.specs.Pass.{pass, firstCard, secondCard}
 use Rattle.deal_spec.specs.Deal.{stakedSeats, burnt, dealTakes, dealtSeats, upCard, dealEffect}
 use Rattle.lists.proofs.Parts.{any-map, part-of-take, sum-places, sum-more}
 use Rattle.lists.proofs.Stores.{sets-taken}
+use Rattle.deal_spec.proofs.DealAccepted.{DealAccepted}
 use Rattle.deal_spec.proofs.Pass.{pass-view, pass-length, pass-money, pass-either, pass-staked, pass-cards}
 use Rattle.deal_spec.proofs.DealtSeat.{dealtSeat, both-cards, first-cards, second-cards, dealt-laid, dealt-prizes, dealt-shaped, dealt-sound}
-
--- what an accepted deal knows beside a sound table
-pub record Dealable (t : Table) : Type 0 where
-  pub not-dealt : isDealt t ≡ false
-  pub some : someStaked t ≡ true
-  pub covered : allCover t ≤ t .tray
-  pub enough : t .shoe .drawn + dealTakes t ≤ 52 * t .options .decks
 
 -- the places of the order: the first pass, the second, and how many staked seats are below a seat
 abbrev pub firstPlace : Table → ℕ
@@ -62,30 +56,30 @@ dealtAt t i = dealtSeat (seatAt t i) (firstOf t i) (secondOf t i)
 
 -- b + 2 S + 1 cards from place d of an order whose first K are in the shoe: b, then S, one and S
 four-parts : (w : ℕ → ℕ) (order : List ℕ) (d b S K : ℕ) → d + (b + 2 * S + 1) ≤ K → K ≤ length order
-    → sum w (take (b + 2 * S + 1) (drop d (take K order)))
-    ≡ sum w (take b (drop d (take K order))) + sum w (take S (drop (d + b) order)) + w (getD order (d + b + S) 0) + sum w (take S (drop (d + b + S + 1) order))
+    → sumOf w (take (b + 2 * S + 1) (drop d (take K order)))
+    ≡ sumOf w (take b (drop d (take K order))) + sumOf w (take S (drop (d + b) order)) + w (getD order (d + b + S) 0) + sumOf w (take S (drop (d + b + S + 1) order))
 four-parts w order d b S K room full =
     let one : d + b + S + 1 ≡ suc (d + b + S) = omega arith in
     let end : d + (b + 2 * S + 1) ≡ d + b + S + 1 + S = omega arith in
     omega (
       arith,
-      ap (sum w) (part-of-take (b + 2 * S + 1) d K order room),
-      ap (sum w) (part-of-take b d K order (omega arith)),
+      ap (sumOf w) (part-of-take (b + 2 * S + 1) d K order room),
+      ap (sumOf w) (part-of-take b d K order (omega arith)),
       sum-more w order d (b + 2 * S + 1),
       sum-more w order d b,
       sum-more w order (d + b) S,
       sum-take w order (d + b + S) 0 (omega arith),
-      ap (λ (n : ℕ). sum w (take n order)) one,
+      ap (λ (n : ℕ). sumOf w (take n order)) one,
       sum-more w order (d + b + S + 1) S,
-      ap (λ (n : ℕ). sum w (take n order)) end,
+      ap (λ (n : ℕ). sumOf w (take n order)) end,
     )
 
 -- a seat without hands has no cards
-no-cards : (s : Seat) → s .hands .many ≡ 0 → (w : ℕ → ℕ) → sum w (seatCards s) ≡ 0
-unfolding flat sum
+no-cards : (s : Seat) → s .hands .many ≡ 0 → (w : ℕ → ℕ) → sumOf w (seatCards s) ≡ 0
+unfolding flat sumOf
 no-cards s none w = rw (no-hands s none)
 
-module _ (t : Table) (shaped : Shaped t) (sound : Sound t) (ok : Dealable t) where
+module _ (t : Table) (shaped : Shaped t) (ok : DealAccepted t) where
   -- a number past the table's seats has none
   pub past : (i : ℕ) → 9 ≤ i → seatAt t i ≡ missingSeat
   past i h = List·getD-eq-default (t .seats) missingSeat {n = i} (omega arith)
@@ -97,7 +91,7 @@ module _ (t : Table) (shaped : Shaped t) (sound : Sound t) (ok : Dealable t) whe
       go : Dec (9 ≤ i) → Dec (seatAt t i .hands .many ≤ 0) → seatAt t i .hands .many ≡ 0
       go (yes h) d = rw (past i h)
       go (no h) (yes none) = omega arith
-      go (no h) (no some) = absurd (true≢false (sym (sound .seats i (omega arith) .playing (omega arith) .in-round) ∙ ok .not-dealt))
+      go (no h) (no some) = absurd (true≢false (sym (ok .sound .seats i (omega arith) .playing (omega arith) .in-round) ∙ ok .between))
 
   pub no-insurance-yet : (i : ℕ) → insurance (seatAt t i) ≡ 0
   no-insurance-yet i = go (decLe 9 i) (decLe (insurance (seatAt t i)) 0)
@@ -105,7 +99,7 @@ module _ (t : Table) (shaped : Shaped t) (sound : Sound t) (ok : Dealable t) whe
       go : Dec (9 ≤ i) → Dec (insurance (seatAt t i) ≤ 0) → insurance (seatAt t i) ≡ 0
       go (yes h) d = rw (past i h)
       go (no h) (yes none) = omega arith
-      go (no h) (no some) = absurd (true≢false (sym (sound .seats i (omega arith) .insured (omega arith) .in-round) ∙ ok .not-dealt))
+      go (no h) (no some) = absurd (true≢false (sym (ok .sound .seats i (omega arith) .insured (omega arith) .in-round) ∙ ok .between))
 
   -- a staked seat is one of the nine
   pub staked-nine : (i : ℕ) → isStaked (seatAt t i) ≡ true → i < 9
@@ -138,17 +132,17 @@ module _ (t : Table) (shaped : Shaped t) (sound : Sound t) (ok : Dealable t) whe
       (rw (once-staked i) (both .0)) (both .1)
 
   -- each seat's money stays
-  over-money : (f : Money → ℕ) → sum (λ s. f (s .money)) (dealtSeats t) ≡ sum (λ s. f (s .money)) (t .seats)
+  over-money : (f : Money → ℕ) → sumOf (λ s. f (s .money)) (dealtSeats t) ≡ sumOf (λ s. f (s .money)) (t .seats)
   unfolding dealtSeats
   over-money f =
       pass-money secondCard (t .shoe .order) (λ s card. refl) f (secondPlace t) once
       ∙ pass-money firstCard (t .shoe .order) (λ s card. refl) f (firstPlace t) (t .seats)
 
-  some-staked : any isStaked (dealtSeats t) ≡ any isStaked (t .seats)
+  some-staked : anyOf isStaked (dealtSeats t) ≡ anyOf isStaked (t .seats)
   unfolding dealtSeats
   some-staked =
       sym (any-map (λ b. b) isStaked (dealtSeats t))
-      ∙ ap (any (λ b. b)) (pass-view secondCard (t .shoe .order) isStaked (λ s card. refl) (secondPlace t) once ∙ pass-view firstCard (t .shoe .order) isStaked (λ s card. refl) (firstPlace t) (t .seats))
+      ∙ ap (anyOf (λ b. b)) (pass-view secondCard (t .shoe .order) isStaked (λ s card. refl) (secondPlace t) once ∙ pass-view firstCard (t .shoe .order) isStaked (λ s card. refl) (firstPlace t) (t .seats))
       ∙ any-map (λ b. b) isStaked (t .seats)
 
   as-many : length (dealtSeats t) ≡ length (t .seats)
@@ -171,7 +165,7 @@ module _ (t : Table) (shaped : Shaped t) (sound : Sound t) (ok : Dealable t) whe
       (λ staked. dealt-prizes (seatAt t i) (four i staked) (firstOf t i) (secondOf t i) (t .options))
       (λ none. no-prizes (t .options) (seatAt t i) (no-hand-yet i))
 
-  over-laid : sum laid (dealtSeats t) ≡ sum laid (t .seats)
+  over-laid : sumOf laid (dealtSeats t) ≡ sumOf laid (t .seats)
   over-laid = sum-places laid (dealtSeats t) (t .seats) missingSeat as-many (λ i h. laid-after i)
 
   pub deal-money : allMoney (dealEffect t) ≡ allMoney t
@@ -184,41 +178,41 @@ module _ (t : Table) (shaped : Shaped t) (sound : Sound t) (ok : Dealable t) whe
 
   all-places : t .shoe .drawn + (burnt t + 2 * stakedSeats (t .seats) + 1) ≤ 416
   unfolding dealTakes
-  all-places = omega (arith, ok .enough, decks-416 t sound)
+  all-places = omega (arith, ok .enough, decks-416 t (ok .sound))
 
-  first-given : (w : ℕ → ℕ) → sum (λ x. sum w (seatCards x)) once ≡ sum (λ x. sum w (seatCards x)) (t .seats) + sum w (take (stakedSeats (t .seats)) (drop (firstPlace t) (t .shoe .order)))
+  first-given : (w : ℕ → ℕ) → sumOf (λ x. sumOf w (seatCards x)) once ≡ sumOf (λ x. sumOf w (seatCards x)) (t .seats) + sumOf w (take (stakedSeats (t .seats)) (drop (firstPlace t) (t .shoe .order)))
   first-given w =
-      pass-cards firstCard (t .shoe .order) (λ x. sum w (seatCards x)) w (firstPlace t) (t .seats) (omega (arith, all-places, order-length))
+      pass-cards firstCard (t .shoe .order) (λ x. sumOf w (seatCards x)) w (firstPlace t) (t .seats) (omega (arith, all-places, order-length))
       (λ i staked card. omega (arith, first-cards (seatAt t i) (four i staked) card 0 w, no-cards (seatAt t i) (no-hand-yet i) w))
 
-  second-given : (w : ℕ → ℕ) → sum (λ x. sum w (seatCards x)) (dealtSeats t) ≡ sum (λ x. sum w (seatCards x)) once + sum w (take (stakedSeats (t .seats)) (drop (secondPlace t) (t .shoe .order)))
+  second-given : (w : ℕ → ℕ) → sumOf (λ x. sumOf w (seatCards x)) (dealtSeats t) ≡ sumOf (λ x. sumOf w (seatCards x)) once + sumOf w (take (stakedSeats (t .seats)) (drop (secondPlace t) (t .shoe .order)))
   unfolding dealtSeats
   second-given w =
       let as-staked = pass-money firstCard (t .shoe .order) (λ s card. refl) (λ m. cond (ltb 0 (m .stake)) 1 0) (firstPlace t) (t .seats) in
       rw as-staked at
-      (pass-cards secondCard (t .shoe .order) (λ x. sum w (seatCards x)) w (secondPlace t) once (omega (arith, all-places, order-length, as-staked))
+      (pass-cards secondCard (t .shoe .order) (λ x. sumOf w (seatCards x)) w (secondPlace t) once (omega (arith, all-places, order-length, as-staked))
       (λ i. pass-either firstCard (t .shoe .order) (firstPlace t) (t .seats) i
-      (λ x. isStaked x ≡ true → (card : ℕ) → sum w (seatCards (secondCard x card)) ≡ sum w (seatCards x) + w card)
+      (λ x. isStaked x ≡ true → (card : ℕ) → sumOf w (seatCards (secondCard x card)) ≡ sumOf w (seatCards x) + w card)
       (λ staked still card. second-cards (seatAt t i) (four i staked) (firstOf t i) card w)
       (λ none staked. absurd (true≢false (sym staked ∙ none)))))
 
   -- the bank has no card yet
-  no-bank-yet : (w : ℕ → ℕ) → sum w (bankCards t) ≡ 0
-  no-bank-yet w = sum-none w (bankCards t) 0 (λ i h. absurd (omega (arith, ltb-false 0 (length (bankCards t)) (ok .not-dealt))))
+  no-bank-yet : (w : ℕ → ℕ) → sumOf w (bankCards t) ≡ 0
+  no-bank-yet w = sum-none w (bankCards t) 0 (λ i h. absurd (omega (arith, ltb-false 0 (length (bankCards t)) (ok .between))))
 
   -- the burnt cards
   abbrev burntCards : List ℕ
   burntCards = take (burnt t) (tableShoe t)
 
   shoe-takes : (k : ℕ) → t .shoe .drawn + k ≤ 52 * t .options .decks → length (take k (tableShoe t)) ≡ k
-  shoe-takes k room = simp (length-take, length-drop, shaped .order) (omega (arith, decks-416 t sound))
+  shoe-takes k room = simp (length-take, length-drop, shaped .order) (omega (arith, decks-416 t (ok .sound)))
 
   burnt-many : length burntCards ≡ burnt t
   unfolding dealTakes
   burnt-many = shoe-takes (burnt t) (omega (arith, ok .enough))
 
   burnt-room : t .shoe .discarded + length burntCards ≤ 416
-  burnt-room = omega (arith, all-places, burnt-many, room-discards t (shaped .discards) sound)
+  burnt-room = omega (arith, all-places, burnt-many, room-discards t (shaped .discards) (ok .sound))
 
   discards-after : tableDiscards (dealEffect t) ≡ tableDiscards t ++ burntCards
   unfolding dealEffect
@@ -226,19 +220,19 @@ module _ (t : Table) (shaped : Shaped t) (sound : Sound t) (ok : Dealable t) whe
 
   -- what the deal takes of the shoe, in its order: the burnt cards, the first pass, the bank's card and the second pass
   taken-parts : (w : ℕ → ℕ)
-      → sum w (take (dealTakes t) (tableShoe t))
-      ≡ sum w burntCards + sum w (take (stakedSeats (t .seats)) (drop (firstPlace t) (t .shoe .order))) + w (upCard t) + sum w (take (stakedSeats (t .seats)) (drop (secondPlace t) (t .shoe .order)))
+      → sumOf w (take (dealTakes t) (tableShoe t))
+      ≡ sumOf w burntCards + sumOf w (take (stakedSeats (t .seats)) (drop (firstPlace t) (t .shoe .order))) + w (upCard t) + sumOf w (take (stakedSeats (t .seats)) (drop (secondPlace t) (t .shoe .order)))
   unfolding dealTakes upCard
-  taken-parts w = four-parts w (t .shoe .order) (t .shoe .drawn) (burnt t) (stakedSeats (t .seats)) (52 * t .options .decks) (ok .enough) (omega (arith, decks-416 t sound, order-length))
+  taken-parts w = four-parts w (t .shoe .order) (t .shoe .drawn) (burnt t) (stakedSeats (t .seats)) (52 * t .options .decks) (ok .enough) (omega (arith, decks-416 t (ok .sound), order-length))
 
-  out-cards : (w : ℕ → ℕ) → sum w (outCards (dealEffect t)) ≡ sum w (outCards t) + sum w (take (dealTakes t) (tableShoe t))
-  unfolding dealEffect withCard sum
+  out-cards : (w : ℕ → ℕ) → sumOf w (outCards (dealEffect t)) ≡ sumOf w (outCards t) + sumOf w (take (dealTakes t) (tableShoe t))
+  unfolding dealEffect withCard sumOf
   out-cards w =
       omega (
         arith,
         sum-out (dealEffect t) w,
         sum-out t w,
-        ap (sum w) discards-after,
+        ap (sumOf w) discards-after,
         sum-append w (tableDiscards t) burntCards,
         first-given w,
         second-given w,
@@ -246,7 +240,7 @@ module _ (t : Table) (shaped : Shaped t) (sound : Sound t) (ok : Dealable t) whe
         taken-parts w,
       )
 
-  drawn-cards : (w : ℕ → ℕ) → sum w (tableDrawn (dealEffect t)) ≡ sum w (tableDrawn t) + sum w (take (dealTakes t) (tableShoe t))
+  drawn-cards : (w : ℕ → ℕ) → sumOf w (tableDrawn (dealEffect t)) ≡ sumOf w (tableDrawn t) + sumOf w (take (dealTakes t) (tableShoe t))
   unfolding dealEffect
   drawn-cards w = rw (take-add, sum-append)
 
@@ -269,7 +263,7 @@ module _ (t : Table) (shaped : Shaped t) (sound : Sound t) (ok : Dealable t) whe
   -- a seat without a stake has no hand, and stays sound
   idle-sound : (i : ℕ) (ace : Bool) → i < 9 → isStaked (seatAt t i) ≡ false → SoundSeat (t .options) true ace i (seatAt t i)
   idle-sound i ace h none =
-      let f = sound .seats i h in
+      let f = ok .sound .seats i h in
       record {
         beyond = f .beyond;
         stake-fits = f .stake-fits;
@@ -284,22 +278,22 @@ module _ (t : Table) (shaped : Shaped t) (sound : Sound t) (ok : Dealable t) whe
       dealt-either i (SoundSeat (t .options) true ace i)
       (λ staked.
       dealt-sound (seatAt t i) (four i staked) (firstOf t i) (secondOf t i)
-      (t .options) (isAce (up t)) ace i (sound-options t sound .hands-least) (ltb-true 0 (stake (seatAt t i)) staked)
-      (rw (ok .not-dealt) at (sound .seats i h)))
+      (t .options) (isAce (up t)) ace i (sound-options t (ok .sound) .hands-least) (ltb-true 0 (stake (seatAt t i)) staked)
+      (rw (ok .between) at (ok .sound .seats i h)))
       (idle-sound i ace h)
 
   pub deal-sound : Sound (dealEffect t)
   unfolding dealEffect withCard
   deal-sound = record {
-    options = sound .options;
-    valid = sound .valid;
+    options = ok .sound .options;
+    valid = ok .sound .valid;
     drawn = ok .enough;
     discarded = burnt-room;
-    faces = λ b h. omega (arith, out-cards (isIt b), drawn-cards (isIt b), sound .faces b h);
-    number = omega (arith, out-cards (λ x. 1), shoe-takes (dealTakes t) (ok .enough), sum-ones (outCards (dealEffect t)), sum-ones (outCards t), sum-ones (take (dealTakes t) (tableShoe t)), sound .number);
+    faces = λ b h. omega (arith, out-cards (isIt b), drawn-cards (isIt b), ok .sound .faces b h);
+    number = omega (arith, out-cards (λ x. 1), shoe-takes (dealTakes t) (ok .enough), sum-ones (outCards (dealEffect t)), sum-ones (outCards t), sum-ones (take (dealTakes t) (tableShoe t)), ok .sound .number);
     seats = λ i h. seat-sound i (isAce (upCard t)) h;
     bank = omega arith;
     round = λ dealt. some-staked ∙ ok .some;
-    money = omega (arith, deal-money, sound .money);
+    money = omega (arith, deal-money, ok .sound .money);
     cover = λ dealt. omega (arith, over-money (λ m. 20 * m .stake), ok .covered);
   }

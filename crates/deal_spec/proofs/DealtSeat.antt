@@ -6,7 +6,7 @@ use Prim.Native.Nat.{ℕ, _+_, _≤_, _<_}
 use native.Mathlib.Omega.{arith}
 use lib.ListN.{length, length-set}
 use lib.Seq.{getD-set-same, set-set, take-suc-set}
-use Rattle.lists.specs.Sum.{sum}
+use Rattle.lists.specs.Sum.{sumOf}
 use Rattle.lists.specs.Flat.{flat}
 use Rattle.lists.proofs.Places.{holds-set}
 use Rattle.cards.specs.Hand.{emptyHand, withCard}
@@ -46,23 +46,23 @@ module _ (s : Seat) (four : length (s .hands .places) ≡ 4) (a b : ℕ) where
   unfolding withCard
   dealt-hands = only-hand s (twoCards a b) four
 
-  pub first-cards : (w : ℕ → ℕ) → sum w (seatCards (firstCard s a)) ≡ w a
-  unfolding withCard flat sum
+  pub first-cards : (w : ℕ → ℕ) → sumOf w (seatCards (firstCard s a)) ≡ w a
+  unfolding withCard flat sumOf
   first-cards w = rw (only-hand s (record { hand = withCard emptyHand a; origin = dealt; ended = notEnded }) four) (omega arith)
 
-  dealt-cards : (w : ℕ → ℕ) → sum w (seatCards (dealtSeat s a b)) ≡ w a + w b
-  unfolding flat sum
+  dealt-cards : (w : ℕ → ℕ) → sumOf w (seatCards (dealtSeat s a b)) ≡ w a + w b
+  unfolding flat sumOf
   dealt-cards w = rw dealt-hands (omega arith)
 
-  pub second-cards : (w : ℕ → ℕ) → sum w (seatCards (secondCard (firstCard s a) b)) ≡ sum w (seatCards (firstCard s a)) + w b
-  second-cards w = omega (arith, ap (λ (x : Seat). sum w (seatCards x)) both-cards, dealt-cards w, first-cards w)
+  pub second-cards : (w : ℕ → ℕ) → sumOf w (seatCards (secondCard (firstCard s a) b)) ≡ sumOf w (seatCards (firstCard s a)) + w b
+  second-cards w = omega (arith, ap (λ (x : Seat). sumOf w (seatCards x)) both-cards, dealt-cards w, first-cards w)
 
   pub dealt-laid : laid (dealtSeat s a b) ≡ stake s + insurance s
-  unfolding laid sum wager
+  unfolding laid sumOf wager
   dealt-laid = rw dealt-hands (omega arith)
 
   pub dealt-prizes : (o : Options) → prizes o (dealtSeat s a b) ≡ 0
-  unfolding prizes sum prize isPrizeHand
+  unfolding prizes sumOf prize isPrizeHand
   dealt-prizes o = rw dealt-hands (simp and-false)
 
   dealt-hand : SoundHand (twoCards a b)

@@ -1,4 +1,5 @@
--- Deal and void keep a table good: sound, and in agreement with the history.
+-- Deal keeps a table good: sound, and in agreement with the history. What an accepted deal finds, its passes, a seat after both, and the whole call.
+pub mod DealAccepted
 pub mod Pass
 pub mod DealtSeat
 pub mod DealSound

@@ -7,7 +7,7 @@ use Prim.Native.Nat.{ℕ, zero, suc, _+_, _≤_}
 use native.Mathlib.Omega.{arith}
 use lib.ListN.{length, take, drop, getD, length-map}
 use lib.Seq.{drop-cons}
-use Rattle.lists.specs.Sum.{sum}
+use Rattle.lists.specs.Sum.{sumOf}
 use Rattle.lists.proofs.Sums.{sum-map}
 use Rattle.lists.proofs.Places.{map-take}
 use Rattle.table.specs.declared.Money.{Money}
@@ -36,15 +36,15 @@ module _ (give : Seat → ℕ → Seat) (order : List ℕ) where
       isTrue s = true
 
   -- a sum over the seats' money, which a card leaves
-  pub pass-money : ((s : Seat) (card : ℕ) → give s card .money ≡ s .money) → (f : Money → ℕ) (n : ℕ) (seats : List Seat) → sum (λ s. f (s .money)) (pass give order n seats) ≡ sum (λ s. f (s .money)) seats
+  pub pass-money : ((s : Seat) (card : ℕ) → give s card .money ≡ s .money) → (f : Money → ℕ) (n : ℕ) (seats : List Seat) → sumOf (λ s. f (s .money)) (pass give order n seats) ≡ sumOf (λ s. f (s .money)) seats
   pass-money same f n seats =
-      sym (sum-map f (λ s. s .money) (pass give order n seats)) ∙ ap (sum f) (pass-view (λ s. s .money) same n seats) ∙ sum-map f (λ s. s .money) seats
+      sym (sum-map f (λ s. s .money) (pass give order n seats)) ∙ ap (sumOf f) (pass-view (λ s. s .money) same n seats) ∙ sum-map f (λ s. s .money) seats
 
   -- the seat at a place
   pub pass-at : (n : ℕ) (seats : List Seat) (i : ℕ)
       → getD (pass give order n seats) i missingSeat
       ≡ cond (isStaked (getD seats i missingSeat)) (give (getD seats i missingSeat) (getD order (n + stakedSeats (take i seats)) 0)) (getD seats i missingSeat)
-  unfolding pass sum
+  unfolding pass sumOf
   pass-at n [] i = refl
   pass-at n (s ∷ ss) zero = go (isStaked s)
     where
@@ -74,27 +74,27 @@ module _ (give : Seat → ℕ → Seat) (order : List ℕ) where
   -- how many of the first are staked stays, where a card leaves the stake
   pub pass-staked : ((s : Seat) (card : ℕ) → isStaked (give s card) ≡ isStaked s) → (n : ℕ) (seats : List Seat) (i : ℕ) → stakedSeats (take i (pass give order n seats)) ≡ stakedSeats (take i seats)
   pass-staked same n seats i =
-      sym (staked-map (pass give order n seats)) ∙ ap (λ (bs : List Bool). sum one (take i bs)) (pass-view isStaked same n seats) ∙ staked-map seats
+      sym (staked-map (pass give order n seats)) ∙ ap (λ (bs : List Bool). sumOf one (take i bs)) (pass-view isStaked same n seats) ∙ staked-map seats
     where
       one : Bool → ℕ
       one b = cond b 1 0
 
-      staked-map : (xs : List Seat) → sum one (take i (map isStaked xs)) ≡ stakedSeats (take i xs)
-      staked-map xs = ap (sum one) (sym (map-take isStaked i xs)) ∙ sum-map one isStaked (take i xs)
+      staked-map : (xs : List Seat) → sumOf one (take i (map isStaked xs)) ≡ stakedSeats (take i xs)
+      staked-map xs = ap (sumOf one) (sym (map-take isStaked i xs)) ∙ sum-map one isStaked (take i xs)
 
   -- the cards that a pass gives, whatever is summed over them
   pub pass-cards : (f : Seat → ℕ) (w : ℕ → ℕ) (n : ℕ) (seats : List Seat) → n + stakedSeats seats ≤ length order
       → ((i : ℕ) → isStaked (getD seats i missingSeat) ≡ true → (card : ℕ) → f (give (getD seats i missingSeat) card) ≡ f (getD seats i missingSeat) + w card)
-      → sum f (pass give order n seats) ≡ sum f seats + sum w (take (stakedSeats seats) (drop n order))
-  unfolding pass sum
+      → sumOf f (pass give order n seats) ≡ sumOf f seats + sumOf w (take (stakedSeats seats) (drop n order))
+  unfolding pass sumOf
   pass-cards f w n [] room each = refl
   pass-cards f w n (s ∷ ss) room each =
       go (isStaked s) refl room (λ r. pass-cards f w (suc n) ss r (λ i. each (suc i))) (λ r. pass-cards f w n ss r (λ i. each (suc i)))
     where
       go : (b : Bool) → isStaked s ≡ b → n + (cond b 1 0 + stakedSeats ss) ≤ length order
-          → (suc n + stakedSeats ss ≤ length order → sum f (pass give order (suc n) ss) ≡ sum f ss + sum w (take (stakedSeats ss) (drop (suc n) order)))
-          → (n + stakedSeats ss ≤ length order → sum f (pass give order n ss) ≡ sum f ss + sum w (take (stakedSeats ss) (drop n order)))
-          → sum f (cond b (give s (getD order n 0) ∷ pass give order (suc n) ss) (s ∷ pass give order n ss)) ≡ f s + sum f ss + sum w (take (cond b 1 0 + stakedSeats ss) (drop n order))
+          → (suc n + stakedSeats ss ≤ length order → sumOf f (pass give order (suc n) ss) ≡ sumOf f ss + sumOf w (take (stakedSeats ss) (drop (suc n) order)))
+          → (n + stakedSeats ss ≤ length order → sumOf f (pass give order n ss) ≡ sumOf f ss + sumOf w (take (stakedSeats ss) (drop n order)))
+          → sumOf f (cond b (give s (getD order n 0) ∷ pass give order (suc n) ss) (s ∷ pass give order n ss)) ≡ f s + sumOf f ss + sumOf w (take (cond b 1 0 + stakedSeats ss) (drop n order))
       go true staked r given idle =
           let next : drop n order ≡ getD order n 0 ∷ drop (suc n) order = drop-cons order n 0 (omega arith) in
           let more : 1 + stakedSeats ss ≡ suc (stakedSeats ss) = omega arith in

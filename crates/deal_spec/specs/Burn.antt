@@ -1,4 +1,4 @@
--- Document 01, "House options": first burn if the shoe is fresh, else later burn (article 4).
+-- Document 01, "House options": how many cards a deal burns. First burn if the shoe is fresh, else later burn (article 4).
 use mathlib.Core.Bool.{cond}
 use Prim.Native.Nat.{ℕ}
 use lib.Dec.{eqb}

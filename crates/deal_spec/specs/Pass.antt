@@ -1,4 +1,5 @@
--- Document 01, deal: from the lowest seat one card to each staked seat. A pass goes over the seats and takes a card of the order for each.
+-- Document 01, deal: from the lowest seat one card to each staked seat (article 5). A pass goes over the seats and takes a card of the order for
+-- each.
 use mathlib.Core.Bool.{cond}
 use mathlib.Core.List.{List, [], _∷_}
 use Prim.Native.Nat.{ℕ, suc}

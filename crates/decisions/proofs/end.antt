@@ -1,2 +1,2 @@
--- What the calls that end a hand cite.
+-- The law of the answer by the number.
 pub mod Laws

@@ -1,2 +1,2 @@
--- What an accepted decision in turn gives its effect.
-pub mod InTurn
+-- What the conditions in turn, and an accepted decision, give to the code of a decision.
+pub mod Laws

@@ -1,5 +1,4 @@
--- Only proofs need these.
+-- What only proofs and the contracts of private functions cite: nothing here has to be believed.
 pub mod InTurn
+pub mod EndedHand
 pub mod Acted
-pub mod Ended
-pub mod Leave

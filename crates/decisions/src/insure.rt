@@ -1,18 +1,20 @@
-// insure: from purse to layout, an ace up, before the round's first accepted decision, once a seat (document 01, "The seventeen calls").
-// The number function asks the list's conditions in its order.
+// insure: an amount from purse to layout, with an ace up, before the round's first accepted decision, once a seat (document 01, "The seventeen calls",
+// the guest; article 12).
 ghost use mathlib.Core.Path.{_≡_};
 ghost use Prim.Native.Nat.{_-_, _≤_};
 ghost use Rattle.call.specs.Refusal.{first};
 ghost use Rattle.answer.specs.Outcome.{outcome};
 ghost use Rattle.table.specs.Seat.{purse, stake, makeSeat, money as moneyOf};
-ghost use Rattle.decision_spec.specs.Insure.{insureConditions, insureEffect};
-use crate::in_round::round_number;
+ghost use Rattle.decisions_spec.specs.Insure.{insureConditions, insureEffect};
 use crate::progress::any_decided;
+use answer::conditions::seat_number;
 use answer::outcome::Outcome;
 use broken::broken;
 use call::At;
+use call::refusal::asked;
 use cards::card::is_ace;
 use options::permitted::insurance_permitted;
+use state::round::is_dealt;
 use state::round::up;
 use state::seat::seat_at;
 use state::seat::with_seat;
@@ -32,38 +34,40 @@ fn insured(s: Seat, n: u64) -> Seat
     next
 }
 
+// Behind the conditions of every call of a seat: 9 insured already, 10 no stake, 12 a decision was taken, 13 no ace up, 14 nothing or not the option's
+// part of the stake, 15 not in the purse.
 fn insure_number(t: Table, at: At, n: u64) -> u8
     ensures { λ r. ⌜ r ≡ first (insureConditions t (at .seat) n) ⌝ }
 {
-    let number = round_number(broken(t), t, at);
-    if number != 0 {
-        return number;
-    }
     let o = t.options;
+    let early = seat_number(broken(t), 5, !is_dealt(t), o.seats, at.seat);
+    if early != 0 {
+        return early;
+    }
     let s = seat_at(t, at.seat as usize);
     let money = s.money;
-    if 0 < money.insurance {
-        return 9;
-    }
-    if !(0 < money.stake) {
-        return 10;
-    }
-    if any_decided(t) {
-        return 12;
-    }
-    if !is_ace(up(t)) {
-        return 13;
-    }
-    if n == 0 {
-        return 14;
-    }
-    if !insurance_permitted(o, money.stake, n) {
-        return 14;
-    }
-    if money.purse < n {
-        return 15;
-    }
-    0
+    let permitted = insurance_permitted(o, money.stake, n);
+    asked(
+        9,
+        0 < money.insurance,
+        asked(
+            10,
+            !(0 < money.stake),
+            asked(
+                12,
+                any_decided(t),
+                asked(
+                    13,
+                    !is_ace(up(t)),
+                    asked(
+                        14,
+                        n == 0,
+                        asked(14, !permitted, asked(15, money.purse < n, 0)),
+                    ),
+                ),
+            ),
+        ),
+    )
 }
 
 pub fn insure(t: Table, at: At, n: u64) -> Outcome

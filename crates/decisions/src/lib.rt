@@ -1,8 +1,10 @@
-// decisions: in_round, in_turn, progress, insuring, surrendering, ended, ending.
-pub mod end;
-pub mod ended;
-pub mod in_round;
+// Insurance and the decisions that draw no card: insure, surrender, stand, even and five, each in a module of its own, and what the decisions share.
+// Each call gives back the number and the table that its definition says (crate decisions_spec), for every table, a damaged one too.
+mod end;
+pub mod even;
+pub mod five;
 pub mod insure;
-pub mod progress;
+mod progress;
+pub mod stand;
 pub mod surrender;
 pub mod turn;

@@ -1,10 +1,11 @@
-// How far the round has come: whether somebody has drawn, doubled or split, and whether a decision was taken. Every table is taken, a damaged count too.
+// How far the round has come: whether somebody has drawn, doubled or split, and whether a decision was taken (document 01, "The seventeen calls", insure
+// and surrender). Every table is taken, one with a damaged count too.
 ghost use mathlib.Core.Path.{_≡_};
 ghost use lib.Dec.{ltb};
-ghost use Rattle.lists.specs.Tests.{any};
+ghost use Rattle.lists.specs.Tests.{anyOf};
 ghost use Rattle.rules.specs.SeatHand.{handsOf};
 ghost use Rattle.table.specs.Table.{seatsHands};
-ghost use Rattle.decision_spec.specs.Round.{anyDrew, anyDecided};
+ghost use Rattle.decisions_spec.specs.Progress.{anyDrew, anyDecided};
 ghost use Rattle.decisions.specs.Aids.Acted.{acted};
 use rules::drew::seat_drew;
 use rules::seat_hand::NOT_ENDED;
@@ -14,7 +15,7 @@ use table::Table;
 
 // Whether a hand of the seat has ended by a decision.
 fn some_ended(s: SeatHands) -> bool
-    ensures { λ r. ⌜ r ≡ any (λ h. ltb 0 (h .ended)) (handsOf s) ⌝ }
+    ensures { λ r. ⌜ r ≡ anyOf (λ h. ltb 0 (h .ended)) (handsOf s) ⌝ }
 {
     let n = used(s);
     for i in 0usize..n {
@@ -35,7 +36,7 @@ fn has_acted(ends: bool, s: SeatHands) -> bool
 
 // Whether some seat has acted.
 fn some_acted(ends: bool, t: Table) -> bool
-    ensures { λ r. ⌜ r ≡ any (acted ends) (seatsHands t) ⌝ }
+    ensures { λ r. ⌜ r ≡ anyOf (acted ends) (seatsHands t) ⌝ }
 {
     for i in 0usize..9 {
         let s = t.seats[i];
@@ -48,14 +49,14 @@ fn some_acted(ends: bool, t: Table) -> bool
 }
 
 // Whether somebody has drawn, doubled or split in this round.
-pub fn any_drew(t: Table) -> bool
+pub(crate) fn any_drew(t: Table) -> bool
     ensures { λ r. ⌜ r ≡ anyDrew t ⌝ }
 {
     some_acted(false, t)
 }
 
 // Whether a decision was taken in this round.
-pub fn any_decided(t: Table) -> bool
+pub(crate) fn any_decided(t: Table) -> bool
     ensures { λ r. ⌜ r ≡ anyDecided t ⌝ }
 {
     some_acted(true, t)

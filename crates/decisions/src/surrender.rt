@@ -1,52 +1,51 @@
-// surrender: out of turn, before anyone has drawn, doubled or split in this round (document 01, "The seventeen calls").
+// surrender: out of turn, before anyone has drawn, doubled or split in this round, the seat's hand leaves with half its stake lost, paid at close
+// (document 01, "The seventeen calls", the guest; article 18).
 ghost use mathlib.Core.Path.{_≡_};
 ghost use Prim.Native.Nat.{_<_};
 ghost use Rattle.call.specs.Refusal.{first};
 ghost use Rattle.rules.specs.SeatHand.{bySurrender};
 ghost use Rattle.answer.specs.Outcome.{outcome};
-ghost use Rattle.decision_spec.specs.Round.{placeOf, withPlace, endedBy};
-ghost use Rattle.decision_spec.specs.Surrender.{surrenderConditions, surrenderEffect};
-use crate::in_round::round_number;
-use crate::turn::with_place;
+ghost use Rattle.decisions_spec.specs.Place.{placeOf, withPlace, endedBy};
+ghost use Rattle.decisions_spec.specs.Surrender.{surrenderConditions, surrenderEffect};
 use crate::progress::any_drew;
+use crate::turn::with_place;
+use answer::conditions::seat_number;
 use answer::outcome::Outcome;
 use broken::broken;
 use call::At;
+use call::refusal::asked;
 use cards::card::is_ace;
 use rules::seat_hand::BY_SURRENDER;
 use rules::turn::seat_waits;
+use state::round::is_dealt;
 use state::round::up;
 use state::seat::seat_at;
 use state::seat::with_seat;
 use table::Seat;
 use table::Table;
 
-// Behind the conditions of the round: 10 no stake, 12 somebody has drawn, 12 the seat's hand does not wait, 13 an ace up.
+// Behind the conditions of every call of a seat: 10 no stake, 12 somebody has drawn, 12 the seat's hand does not wait, 13 an ace up.
 fn surrender_number(t: Table, at: At) -> u8
     ensures { λ r. ⌜ r ≡ first (surrenderConditions t (at .seat)) ⌝ }
 {
-    let number = round_number(broken(t), t, at);
-    if number != 0 {
-        return number;
-    }
     let o = t.options;
+    let early = seat_number(broken(t), 5, !is_dealt(t), o.seats, at.seat);
+    if early != 0 {
+        return early;
+    }
     let card = up(t);
     let s = seat_at(t, at.seat as usize);
     let hands = s.hands;
     let money = s.money;
-    if !(0 < money.stake) {
-        return 10;
-    }
-    if any_drew(t) {
-        return 12;
-    }
-    if !seat_waits(o, card, hands) {
-        return 12;
-    }
-    if is_ace(card) {
-        return 13;
-    }
-    0
+    asked(
+        10,
+        !(0 < money.stake),
+        asked(
+            12,
+            any_drew(t),
+            asked(12, !seat_waits(o, card, hands), asked(13, is_ace(card), 0)),
+        ),
+    )
 }
 
 // The seat with its first hand ended by surrender: nobody has split, so it is the only one.

@@ -12,8 +12,7 @@ use Rattle.payment.specs.Wager.{wager}
 use Rattle.table.specs.declared.Seat.{Seat}
 use Rattle.table.specs.declared.Table.{Table}
 use Rattle.table.specs.Seat.{missingPlace, stake, hands}
-use Rattle.table.specs.Table.{seatAt}
-use Rattle.display.specs.Seat.{noSuch}
+use Rattle.display.specs.Seat.{seatOrEmpty}
 use Rattle.display.specs.declared.hand.HandShown.{HandShown}
 
 -- A hand's cards and their total, its wager, where it comes from and how it ended.
@@ -32,4 +31,4 @@ unfoldable pub placeShown : Seat → ℕ → HandShown
 placeShown s p = cond (leb (length (hands s)) p) noHandShown (handValues (stake s) (getD (s .hands .places) p missingPlace))
 
 unfoldable pub handShown : Table → ℕ → ℕ → HandShown
-handShown t i p = cond (noSuch t i) noHandShown (placeShown (seatAt t i) p)
+handShown t i p = placeShown (seatOrEmpty t i) p

@@ -1,6 +1,4 @@
--- What a display reads of the whole table.
+-- What a display reads: of the whole table with its turn, of a seat, of a hand. A broken table shows nothing.
 pub mod Table
--- What a display reads of a seat.
 pub mod Seat
--- What a display reads of a hand.
 pub mod Hand

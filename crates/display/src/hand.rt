@@ -1,7 +1,7 @@
 // What a display reads of a hand in its place. A broken table, a seat beyond the option and a place with no hand show nothing.
 ghost use mathlib.Core.Path.{_≡_};
 ghost use Rattle.display.specs.Hand.{noHandShown, handValues, placeShown, handShown};
-use broken::broken;
+use crate::seat::seat_or_empty;
 use cards::hand::Hand;
 use cards::hand::empty_hand;
 use cards::total::total;
@@ -10,7 +10,6 @@ use rules::seat_hand::DEALT;
 use rules::seat_hand::NOT_ENDED;
 use rules::seat_hand::SeatHand;
 use rules::seat_hand::used;
-use state::seat::seat_at;
 use table::Seat;
 use table::Table;
 
@@ -64,13 +63,5 @@ fn shown_place(s: Seat, place: usize) -> HandShown
 pub fn shown_hand(t: Table, seat: u8, place: usize) -> HandShown
     ensures { λ r. ⌜ r ≡ handShown t seat place ⌝ }
 {
-    if broken(t) {
-        return no_hand();
-    }
-    let o = t.options;
-    if o.seats <= seat {
-        return no_hand();
-    }
-    let s = seat_at(t, seat as usize);
-    shown_place(s, place)
+    shown_place(seat_or_empty(t, seat), place)
 }

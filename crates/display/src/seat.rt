@@ -1,11 +1,12 @@
-// What a display reads of a seat. A broken table and a seat beyond the option show nothing.
+// What a display reads of a seat. A broken table and a seat beyond the option show an empty seat.
 ghost use mathlib.Core.Path.{_≡_};
-ghost use Rattle.display.specs.Seat.{noSeatShown, seatValues, seatShown};
+ghost use Rattle.display.specs.Seat.{seatValues, seatOrEmpty, seatShown};
 use broken::broken;
 use money::seat_money::laid;
 use money::seat_money::prizes;
 use options::Options;
 use rules::seat_hand::used;
+use state::empty::empty_seat;
 use state::seat::seat_at;
 use table::Seat;
 use table::Table;
@@ -18,19 +19,6 @@ pub struct SeatShown {
     pub layout: u64,
     pub prizes: u64,
     pub hands: usize,
-}
-
-fn no_seat() -> SeatShown
-    ensures { λ r. ⌜ r ≡ noSeatShown ⌝ }
-{
-    SeatShown {
-        purse: 0,
-        stake: 0,
-        insurance: 0,
-        layout: 0,
-        prizes: 0,
-        hands: 0,
-    }
 }
 
 fn seat_values(o: Options, s: Seat) -> SeatShown
@@ -48,16 +36,23 @@ fn seat_values(o: Options, s: Seat) -> SeatShown
     }
 }
 
-pub fn shown_seat(t: Table, seat: u8) -> SeatShown
-    ensures { λ r. ⌜ r ≡ seatShown t seat ⌝ }
+// The seat of that number, or an empty one where the table is broken or has no such seat.
+pub(crate) fn seat_or_empty(t: Table, seat: u8) -> Seat
+    ensures { λ r. ⌜ r ≡ seatOrEmpty t seat ⌝ }
 {
     if broken(t) {
-        return no_seat();
+        return empty_seat();
     }
     let o = t.options;
     if o.seats <= seat {
-        return no_seat();
+        return empty_seat();
     }
-    let s = seat_at(t, seat as usize);
-    seat_values(o, s)
+    seat_at(t, seat as usize)
+}
+
+pub fn shown_seat(t: Table, seat: u8) -> SeatShown
+    ensures { λ r. ⌜ r ≡ seatShown t seat ⌝ }
+{
+    let o = t.options;
+    seat_values(o, seat_or_empty(t, seat))
 }

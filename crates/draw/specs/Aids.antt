@@ -1,4 +1,4 @@
 -- What only proofs and the contracts of private functions cite: nothing here has to be believed.
-pub mod Grow
+pub mod Grown
 pub mod Drawable
-pub mod SplitSeat
+pub mod Splits

@@ -1,4 +1,2 @@
--- What draw and double share.
--- The part of a split that is one seat's.
--- What only proofs and the contracts of private functions cite: nothing here has to be believed.
+-- The calls' definitions stand in decisions_spec; this crate adds only what its own functions share.
 pub mod Aids

@@ -1,24 +1,23 @@
-// split: the hand whose turn it is, a pair, becomes two, and the stake is laid again for the new one (document 01, "The seventeen calls").
+// split: the hand whose turn it is, a pair, becomes two, and the stake is laid again for the new one (document 01, "The seventeen calls", the guest;
+// article 16).
 ghost use mathlib.Core.Path.{_≡_};
-ghost use mathlib.Core.Bool.{true};
 ghost use Prim.Native.Nat.{_<_};
 ghost use lib.ListN.{getD};
 ghost use Rattle.cards.specs.Hand.{cardsOf};
 ghost use Rattle.call.specs.Refusal.{first as firstOf};
-ghost use Rattle.rules.specs.Turn.{seatWaits};
-ghost use Rattle.table.specs.Seat.{hands as handsOf};
 ghost use Rattle.answer.specs.Outcome.{outcome};
-ghost use Rattle.decision_spec.specs.Split.{splitConditions, splitEffect, splitHand, splitPlaces};
-ghost use Rattle.draw.specs.Aids.SplitSeat.{pairConditions, splitSeat, Pays, Splits};
+ghost use Rattle.decisions_spec.specs.Split.{splitConditions, splitEffect, splitHand, splitPlaces};
+ghost use Rattle.draw.specs.Aids.Splits.{splitSeat, Pays, Splits};
 use answer::outcome::Outcome;
 use call::At;
+use call::refusal::asked;
 use cards::card::is_ace;
 use cards::hand::Hand;
 use cards::hand::empty_hand;
 use cards::hand::with_card;
 use cards::pair::is_pair;
-use decisions::turn::waiting_hand;
 use decisions::turn::turn_number;
+use decisions::turn::waiting_hand;
 use options::Options;
 use rules::seat_hand::NOT_ENDED;
 use rules::seat_hand::SPLIT;
@@ -129,28 +128,7 @@ fn split_table(t: Table, at: At) -> Table
     after
 }
 
-// 13 no pair, 13 the hands are used up, 15 the purse is below the stake.
-fn pair_number(o: Options, card: u8, s: Seat) -> u8
-    requires { ⌜ seatWaits o card (handsOf s) ≡ true ⌝ }
-    ensures { λ r. ⌜ r ≡ firstOf (pairConditions o card s) ⌝ }
-{
-    let hands = s.hands;
-    let money = s.money;
-    let h = waiting_hand(o, card, s);
-    let pair = h.hand;
-    if !is_pair(pair) {
-        return 13;
-    }
-    if (o.hands as usize) <= used(hands) {
-        return 13;
-    }
-    if money.purse < (money.stake as u64) {
-        return 15;
-    }
-    0
-}
-
-// Behind the conditions in turn and those of the pair: 18 fewer than two cards are left.
+// Behind the conditions in turn: 13 no pair, 13 the seat's hands are used up, 15 the purse is below the stake, 18 fewer than two cards are left.
 fn split_number(t: Table, at: At) -> u8
     ensures { λ r. ⌜ r ≡ firstOf (splitConditions t (at .seat)) ⌝ }
 {
@@ -160,15 +138,21 @@ fn split_number(t: Table, at: At) -> u8
     }
     let o = t.options;
     let s = seat_at(t, at.seat as usize);
-    let card = up(t);
-    let asked = pair_number(o, card, s);
-    if asked != 0 {
-        return asked;
-    }
-    if cards_left(t) < 2 {
-        return 18;
-    }
-    0
+    let hands = s.hands;
+    let money = s.money;
+    let h = waiting_hand(o, up(t), s);
+    let pair = h.hand;
+    let most = o.hands as usize;
+    let stake = money.stake as u64;
+    asked(
+        13,
+        !is_pair(pair),
+        asked(
+            13,
+            most <= used(hands),
+            asked(15, money.purse < stake, asked(18, cards_left(t) < 2, 0)),
+        ),
+    )
 }
 
 pub fn split(t: Table, at: At) -> Outcome

@@ -3,7 +3,7 @@ use mathlib.Core.Path.{_≡_, refl}
 use mathlib.Core.Bool.{true}
 use mathlib.Core.List.{List}
 use Prim.Native.Nat.{ℕ}
-use Rattle.lists.specs.Tests.{all}
+use Rattle.lists.specs.Tests.{allOf}
 use Rattle.call.specs.declared.Call.{Call}
 use Rattle.call.specs.declared.Call.the-variants.{Fill, Credit, Buy, Cash, Stake, Deal, Insure, Stand, Draw, Double, Split, Surrender, Even, Five, Close, Void, Load}
 use Rattle.call.specs.Refusal.{first}
@@ -13,28 +13,27 @@ use Rattle.table.specs.Broken.{sound, broken}
 use Rattle.cashier_spec.specs.Opening.{emptyTable}
 use Rattle.cashier_spec.specs.Fill.{fillConditions}
 use Rattle.cashier_spec.specs.Credit.{creditConditions}
-use Rattle.cashier_spec.specs.Between.{betweenConditions}
+use Rattle.answer.specs.Conditions.{seatConditions}
 use Rattle.cashier_spec.specs.Buy.{buyConditions}
 use Rattle.cashier_spec.specs.Cash.{cashConditions}
 use Rattle.cashier_spec.specs.Load.{loadConditions}
 use Rattle.cashier_spec.specs.Stake.{stakeConditions}
 use Rattle.deal_spec.specs.Deal.{dealConditions}
 use Rattle.close_spec.specs.Void.{voidConditions}
-use Rattle.decision_spec.specs.Round.{roundConditions}
-use Rattle.decision_spec.specs.Insure.{insureConditions}
-use Rattle.decision_spec.specs.Surrender.{surrenderConditions}
-use Rattle.decision_spec.specs.Turn.{turnConditions}
-use Rattle.decision_spec.specs.Draw.{drawConditions}
-use Rattle.decision_spec.specs.Double.{doubleConditions}
-use Rattle.decision_spec.specs.Split.{splitConditions}
-use Rattle.decision_spec.specs.Even.{evenConditions}
-use Rattle.decision_spec.specs.Five.{fiveConditions}
+use Rattle.decisions_spec.specs.Insure.{insureConditions}
+use Rattle.decisions_spec.specs.Surrender.{surrenderConditions}
+use Rattle.decisions_spec.specs.Turn.{turnConditions}
+use Rattle.decisions_spec.specs.Draw.{drawConditions}
+use Rattle.decisions_spec.specs.Double.{doubleConditions}
+use Rattle.decisions_spec.specs.Split.{splitConditions}
+use Rattle.decisions_spec.specs.Even.{evenConditions}
+use Rattle.decisions_spec.specs.Five.{fiveConditions}
 use Rattle.close_spec.specs.Close.{closeConditions}
 use Rattle.answer.specs.Reply.{replyBy}
 use Rattle.engine.specs.Step.{number, step}
 
 pub broken-one : (t : Table) → broken t ≡ true → (c : Call) (order : List ℕ) → number t c order ≡ 1
-unfolding number first fillConditions creditConditions betweenConditions buyConditions cashConditions stakeConditions dealConditions roundConditions insureConditions turnConditions drawConditions doubleConditions splitConditions surrenderConditions evenConditions fiveConditions closeConditions voidConditions loadConditions step replyBy
+unfolding number first fillConditions creditConditions seatConditions buyConditions cashConditions stakeConditions dealConditions insureConditions turnConditions drawConditions doubleConditions splitConditions surrenderConditions evenConditions fiveConditions closeConditions voidConditions loadConditions step replyBy
 broken-one t b (Fill n) order = simp b
 broken-one t b (Credit n) order = simp b
 broken-one t b (Buy at n) order = simp b
@@ -54,5 +53,5 @@ broken-one t b Void order = simp b
 broken-one t b Load order = simp b
 
 pub empty-broken : broken emptyTable ≡ true
-unfolding sound inRange ranges all
+unfolding sound inRange ranges allOf
 empty-broken = refl

@@ -1,8 +1,8 @@
 -- The marked session, computed from the definitions of the calls.
 use mathlib.Core.Path.{refl}
-use Rattle.lists.specs.Sum.{sum}
-use Rattle.lists.specs.Tests.{any, all, firstPlace}
-use Rattle.lists.specs.Below.{allBelow, anyBelow}
+use Rattle.lists.specs.Sum.{sumOf}
+use Rattle.lists.specs.Tests.{anyOf, allOf, firstPlace}
+use Rattle.lists.specs.Below.{allBelow}
 use Rattle.lists.specs.Flat.{flat}
 use Rattle.call.specs.Refusal.{first}
 use Rattle.cards.specs.Points.{pointsOf}
@@ -30,18 +30,18 @@ use Rattle.options.specs.Permitted.{stakePermitted, insurancePermitted}
 use Rattle.table.specs.Broken.{soundHand, soundNumber, soundStake, soundInsurance, soundHands, soundPrizes, soundSeat, soundShoe, soundFaces, soundBank, soundMoney, sound}
 use Rattle.cashier_spec.specs.Opening.{openConditions, openNumber, opened}
 use Rattle.cashier_spec.specs.Fill.{fillConditions, fillEffect}
-use Rattle.cashier_spec.specs.Between.{betweenConditions}
+use Rattle.answer.specs.Conditions.{seatConditions}
 use Rattle.cashier_spec.specs.Buy.{buyConditions, buyEffect}
 use Rattle.cashier_spec.specs.Stake.{stakeConditions, stakeEffect}
 use Rattle.deal_spec.specs.Burn.{burnAtDeal}
 use Rattle.deal_spec.specs.Pass.{pass}
 use Rattle.deal_spec.specs.Deal.{dealTakes, dealConditions, dealtSeats, upCard, dealEffect}
-use Rattle.decision_spec.specs.Round.{anyDrew, anyDecided, roundConditions}
-use Rattle.decision_spec.specs.Insure.{insureConditions, insureEffect}
-use Rattle.decision_spec.specs.Turn.{turnConditions, endEffect}
-use Rattle.decision_spec.specs.Card.{cardEffect}
-use Rattle.decision_spec.specs.Double.{doubleConditions}
-use Rattle.decision_spec.specs.Split.{splitConditions, splitEffect}
+use Rattle.decisions_spec.specs.Progress.{anyDrew, anyDecided}
+use Rattle.decisions_spec.specs.Insure.{insureConditions, insureEffect}
+use Rattle.decisions_spec.specs.Turn.{turnConditions, endEffect}
+use Rattle.decisions_spec.specs.Card.{cardEffect}
+use Rattle.decisions_spec.specs.Double.{doubleConditions}
+use Rattle.decisions_spec.specs.Split.{splitConditions, splitEffect}
 use Rattle.close_spec.specs.BankDraw.{bankBurn, bankTakes, bankAtClose, closeTakes}
 use Rattle.close_spec.specs.Close.{closeConditions, seatBack, closeEffect}
 use Rattle.answer.specs.Reply.{replyBy}
@@ -49,5 +49,5 @@ use Rattle.engine.specs.Step.{number, next, step}
 use Rattle.engine.specs.Session.{house, others, marked, order, at, row, rows, calls, Session}
 
 pub session : Session
-unfolding house others marked order at row rows calls sum any all firstPlace allBelow anyBelow flat first pointsOf withCard total couldBePlayed isNatural isPair allSevens suitedSixSevenEight isPrizeHand ranges inRange natural hasTwoCards evenOpen fiveOpen isTwoAces acesWait cardsWait waits mustDraw permitsStand takesCards permitsDraw permitsDouble permitsSplit permitsEven permitsFive seatDrew permitsSurrender wager handBack againstBank againstNatural byTotals insurancePay prize laid prizes validOrder stakePermitted insurancePermitted soundHand soundNumber soundStake soundInsurance soundHands soundPrizes soundSeat soundShoe soundFaces soundBank soundMoney sound openConditions openNumber opened fillConditions fillEffect betweenConditions buyConditions buyEffect stakeConditions stakeEffect burnAtDeal pass dealTakes dealConditions dealtSeats upCard dealEffect anyDrew anyDecided roundConditions insureConditions insureEffect turnConditions endEffect cardEffect doubleConditions splitConditions splitEffect bankBurn bankTakes bankAtClose closeTakes closeConditions seatBack closeEffect number next step replyBy
+unfolding house others marked order at row rows calls sumOf anyOf allOf firstPlace allBelow flat first pointsOf withCard total couldBePlayed isNatural isPair allSevens suitedSixSevenEight isPrizeHand ranges inRange natural hasTwoCards evenOpen fiveOpen isTwoAces acesWait cardsWait waits mustDraw permitsStand takesCards permitsDraw permitsDouble permitsSplit permitsEven permitsFive seatDrew permitsSurrender wager handBack againstBank againstNatural byTotals insurancePay prize laid prizes validOrder stakePermitted insurancePermitted soundHand soundNumber soundStake soundInsurance soundHands soundPrizes soundSeat soundShoe soundFaces soundBank soundMoney sound openConditions openNumber opened fillConditions fillEffect seatConditions buyConditions buyEffect stakeConditions stakeEffect burnAtDeal pass dealTakes dealConditions dealtSeats upCard dealEffect anyDrew anyDecided insureConditions insureEffect turnConditions endEffect cardEffect doubleConditions splitConditions splitEffect bankBurn bankTakes bankAtClose closeTakes closeConditions seatBack closeEffect number next step replyBy
 session = record { opens = refl; plays = refl }

@@ -1,5 +1,4 @@
--- One step over all seventeen calls, and runs of lists of calls.
+-- One step over all seventeen calls, runs of lists of calls, and the claim about the marked session.
 pub mod Step
 pub mod Run
--- The marked session.
 pub mod Session

@@ -15,14 +15,14 @@ use Rattle.cashier_spec.specs.Load.{loadConditions, loadEffect}
 use Rattle.cashier_spec.specs.Stake.{stakeConditions, stakeEffect}
 use Rattle.deal_spec.specs.Deal.{dealConditions, dealEffect}
 use Rattle.close_spec.specs.Void.{voidConditions, voidEffect}
-use Rattle.decision_spec.specs.Insure.{insureConditions, insureEffect}
-use Rattle.decision_spec.specs.Surrender.{surrenderConditions, surrenderEffect}
-use Rattle.decision_spec.specs.Stand.{standConditions, standEffect}
-use Rattle.decision_spec.specs.Draw.{drawConditions, drawEffect}
-use Rattle.decision_spec.specs.Double.{doubleConditions, doubleEffect}
-use Rattle.decision_spec.specs.Split.{splitConditions, splitEffect}
-use Rattle.decision_spec.specs.Even.{evenConditions, evenEffect}
-use Rattle.decision_spec.specs.Five.{fiveConditions, fiveEffect}
+use Rattle.decisions_spec.specs.Insure.{insureConditions, insureEffect}
+use Rattle.decisions_spec.specs.Surrender.{surrenderConditions, surrenderEffect}
+use Rattle.decisions_spec.specs.Stand.{standConditions, standEffect}
+use Rattle.decisions_spec.specs.Draw.{drawConditions, drawEffect}
+use Rattle.decisions_spec.specs.Double.{doubleConditions, doubleEffect}
+use Rattle.decisions_spec.specs.Split.{splitConditions, splitEffect}
+use Rattle.decisions_spec.specs.Even.{evenConditions, evenEffect}
+use Rattle.decisions_spec.specs.Five.{fiveConditions, fiveEffect}
 use Rattle.close_spec.specs.Close.{closeConditions, closeEffect, closeShown}
 
 -- A call's conditions on a table, with the order that is lent beside it.

@@ -2,8 +2,8 @@
 ghost use mathlib.Core.Path.{_≡_};
 ghost use Rattle.answer.specs.Reply.{viewOf};
 ghost use Rattle.engine.specs.Step.{step as stepBy};
-use answer::Reply;
-use answer::plain_reply;
+use answer::reply::Reply;
+use answer::reply::plain_reply;
 use call::Call;
 use close::close;
 use table::Table;
@@ -21,13 +21,13 @@ pub fn step(t: Table, c: Call, order: &[u8]) -> Reply
         Call::Stake(at, n) => cashier::stake::stake(t, at, n),
         Call::Deal => deal::deal(t),
         Call::Insure(at, n) => decisions::insure::insure(t, at, n),
-        Call::Stand(at) => decisions::end::stand(t, at),
+        Call::Stand(at) => decisions::stand::stand(t, at),
         Call::Draw(at) => draw::draw::draw(t, at),
-        Call::Double(at) => draw::draw::double(t, at),
+        Call::Double(at) => draw::double::double(t, at),
         Call::Split(at) => draw::split::split(t, at),
         Call::Surrender(at) => decisions::surrender::surrender(t, at),
-        Call::Even(at) => decisions::end::even(t, at),
-        Call::Five(at) => decisions::end::five(t, at),
+        Call::Even(at) => decisions::even::even(t, at),
+        Call::Five(at) => decisions::five::five(t, at),
         Call::Close => return close(t),
         Call::Void => close::void::void(t),
         Call::Load => cashier::load::load(t, order),

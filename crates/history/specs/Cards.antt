@@ -1,4 +1,4 @@
--- Cards: an accepted load sets the cards drawn to none. Deal, draw, double, split and close take the next ones of its order,
+-- Document 01, "The history", cards: an accepted load sets the cards drawn to none. Deal, draw, double, split and close take the next ones of its order,
 -- as many as their lines say; other calls take none. The shoe is fresh until the first accepted deal after its load.
 use mathlib.Core.Bool.{Bool, true, false, cond, _||_}
 use mathlib.Core.List.{List, [], _∷_, _++_}

@@ -1,4 +1,4 @@
--- What the history reads: the accepted calls with their seats and amounts, each with the order that was lent beside it. Newest first.
+-- Document 01, "The history": what it reads, the accepted calls with their seats and amounts, each with the order that was lent beside it. Newest first.
 use mathlib.Core.Bool.{Bool, _||_}
 use mathlib.Core.List.{List}
 use Prim.Native.Nat.{ℕ}
@@ -9,9 +9,6 @@ use Rattle.call.specs.Call.{kind, seat, amount}
 pub record Entry : Type 0 where
   pub call : Call
   pub order : List ℕ
-
-abbrev pub entry : Call → List ℕ → Entry
-entry c order = record { call = c; order = order }
 
 -- The kind of the call, and whether it names the seat.
 abbrev pub isKind : ℕ → Entry → Bool

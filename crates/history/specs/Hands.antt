@@ -1,4 +1,4 @@
--- Hands: deal gives each seat that staked in the round one hand. A decision in turn goes to the hand whose turn it is, surrender to the
+-- Document 01, "The history", rounds: deal gives each seat that staked in the round one hand. A decision in turn goes to the hand whose turn it is, surrender to the
 -- seat's only hand. Split moves the second card to the new hand. A hand keeps its cards, where it comes from and how it ended; W follows.
 use mathlib.Core.Bool.{cond}
 use mathlib.Core.List.{List, [], _∷_, _++_}

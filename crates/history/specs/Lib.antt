@@ -4,3 +4,5 @@ pub mod Rounds
 pub mod Cards
 pub mod Hands
 pub mod Money
+-- What only proofs and the contracts of private functions cite: nothing here has to be believed.
+pub mod Aids

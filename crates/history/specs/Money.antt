@@ -1,4 +1,4 @@
--- Money: a seat lays in a round its stake, its insurance, and S again for each double and split. Its purse is its buys − cashes − all it
+-- Document 01, "The history", money: a seat lays in a round its stake, its insurance, and S again for each double and split. Its purse is its buys − cashes − all it
 -- laid + all its prizes; for each closed round add what it laid and its nets; for each voided round add what it laid and take its prizes
 -- off. Its layout money is what it laid in the round not yet ended. These sums may pass below 0 on the way.
 use mathlib.Core.Bool.{cond, _&&_, _||_}

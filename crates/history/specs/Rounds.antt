@@ -1,4 +1,4 @@
--- Rounds: a round starts after the opening or after an accepted close or void, and ends with the next of these two.
+-- Document 01, "The history", rounds: a round starts after the opening or after an accepted close or void, and ends with the next of these two.
 use mathlib.Core.Bool.{Bool, true, false, cond, _&&_}
 use mathlib.Core.List.{List, [], _∷_}
 use Prim.Native.Nat.{ℕ}

@@ -8,7 +8,7 @@ use native.Mathlib.Numerals.{add-one}
 use native.Mathlib.Decide.{decLe}
 use native.Mathlib.Omega.{arith}
 use lib.ListN.{length, getD}
-use Rattle.lists.specs.Sum.{sum}
+use Rattle.lists.specs.Sum.{sumOf}
 use Rattle.lists.specs.Below.{allBelow, sumBelow}
 
 -- what every number below passes, one of them passes
@@ -62,7 +62,7 @@ sum-below-first f zero = omega arith
 sum-below-first f (suc n) = omega (arith, sum-below-first f n)
 
 -- a sum over a list, by place
-pub sum-by-place : {A : Type 0} (f : A → ℕ) (xs : List A) (d : A) → sum f xs ≡ sumBelow (λ i. f (getD xs i d)) (length xs)
-unfolding sum sumBelow
+pub sum-by-place : {A : Type 0} (f : A → ℕ) (xs : List A) (d : A) → sumOf f xs ≡ sumBelow (λ i. f (getD xs i d)) (length xs)
+unfolding sumOf sumBelow
 sum-by-place f [] d = refl
 sum-by-place f (x ∷ xs) d = ap (λ (n : ℕ). f x + n) (sum-by-place f xs d) ∙ sym (sum-below-first (λ i. f (getD (x ∷ xs) i d)) (length xs))

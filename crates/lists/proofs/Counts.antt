@@ -9,8 +9,8 @@ use native.Mathlib.Omega.{arith}
 use borrow.Author.Tests.{lt-ltb, ne-eqb}
 use lib.Dec.{ltb, eqb}
 use lib.ListN.{length}
-use Rattle.lists.specs.Sum.{sum, isIt, count}
-use Rattle.lists.specs.Tests.{all}
+use Rattle.lists.specs.Sum.{sumOf, isIt, countOf}
+use Rattle.lists.specs.Tests.{allOf}
 use Rattle.lists.specs.Below.{sumBelow}
 use Rattle.lists.proofs.Picks.{cond-most}
 
@@ -43,20 +43,20 @@ it-most x (suc n) = go (decLe n x) (it-most x n)
     go (yes le) rec = omega (arith, it-above x n le, here)
     go (no gt) rec = rw (ne-eqb x n (λ e. omega arith)) (omega arith)
 
-counts-cons : (x : ℕ) (xs : List ℕ) (n : ℕ) → sumBelow (λ k. count k (x ∷ xs)) n ≡ sumBelow (λ k. isIt k x) n + sumBelow (λ k. count k xs) n
-unfolding sum
-counts-cons x xs n = sum-below-plus (λ k. isIt k x) (λ k. count k xs) n
+counts-cons : (x : ℕ) (xs : List ℕ) (n : ℕ) → sumBelow (λ k. countOf k (x ∷ xs)) n ≡ sumBelow (λ k. isIt k x) n + sumBelow (λ k. countOf k xs) n
+unfolding sumOf
+counts-cons x xs n = sum-below-plus (λ k. isIt k x) (λ k. countOf k xs) n
 
-counts-most : (xs : List ℕ) (n : ℕ) → sumBelow (λ k. count k xs) n ≤ length xs
-unfolding sum
+counts-most : (xs : List ℕ) (n : ℕ) → sumBelow (λ k. countOf k xs) n ≤ length xs
+unfolding sumOf
 counts-most [] n = omega (arith, sum-below-each (λ k. 0) n 0 (λ i l. refl))
 counts-most (x ∷ xs) n = omega (arith, counts-cons x xs n, it-most x n, counts-most xs n)
 
 -- where the numbers below make up the list, there is none above
-pub counts-all : (xs : List ℕ) (n : ℕ) → sumBelow (λ k. count k xs) n ≡ length xs → all (λ x. ltb x n) xs ≡ true
-unfolding all
+pub counts-all : (xs : List ℕ) (n : ℕ) → sumBelow (λ k. countOf k xs) n ≡ length xs → allOf (λ x. ltb x n) xs ≡ true
+unfolding allOf
 counts-all [] n h = refl
-counts-all (x ∷ xs) n h = and-eq-true-iff (ltb x n) (all (λ y. ltb y n) xs) .1 (lt-ltb x n (go (decLe n x)), counts-all xs n (omega (arith, counts-cons x xs n, it-most x n, counts-most xs n)))
+counts-all (x ∷ xs) n h = and-eq-true-iff (ltb x n) (allOf (λ y. ltb y n) xs) .1 (lt-ltb x n (go (decLe n x)), counts-all xs n (omega (arith, counts-cons x xs n, it-most x n, counts-most xs n)))
   where
     go : Dec (n ≤ x) → x < n
     go (yes le) = absurd (omega (arith, counts-cons x xs n, it-above x n le, counts-most xs n))

@@ -6,7 +6,7 @@ use native.Mathlib.Nat.{le-of-suc-le-suc, not-suc-le-zero}
 use native.Mathlib.Omega.{arith}
 use lib.ListN.{length, getD, take, drop}
 use lib.Seq.{take-nil}
-use Rattle.lists.specs.Sum.{sum}
+use Rattle.lists.specs.Sum.{sumOf}
 
 -- the list with a and b for what stands at p
 abbrev pub two-for : {A : Type 0} → List A → ℕ → A → A → List A
@@ -26,8 +26,8 @@ module _ {A : Type 0} where
   length-two-for (x ∷ xs) zero a b h = refl
   length-two-for (x ∷ xs) (suc p) a b h = ap suc (length-two-for xs p a b (le-of-suc-le-suc h))
 
-  pub sum-two-for : (f : A → ℕ) (xs : List A) (p : ℕ) (a b d : A) → p < length xs → sum f (two-for xs p a b) + f (getD xs p d) ≡ sum f xs + f a + f b
-  unfolding sum
+  pub sum-two-for : (f : A → ℕ) (xs : List A) (p : ℕ) (a b d : A) → p < length xs → sumOf f (two-for xs p a b) + f (getD xs p d) ≡ sumOf f xs + f a + f b
+  unfolding sumOf
   sum-two-for f [] p a b d h = absurd (not-suc-le-zero h)
   sum-two-for f (x ∷ xs) zero a b d h = omega arith
   sum-two-for f (x ∷ xs) (suc p) a b d h = omega (arith, sum-two-for f xs p a b d (le-of-suc-le-suc h))

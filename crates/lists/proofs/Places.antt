@@ -4,7 +4,7 @@ use mathlib.Core.List.{List, [], _∷_, map}
 use Prim.Native.Nat.{ℕ, zero, suc, _<_}
 use native.Mathlib.Nat.{le-of-suc-le-suc, not-suc-le-zero}
 use native.Mathlib.Decide.{ℕ-discrete}
-use lib.ListN.{length, getD, take, drop, set}
+use lib.ListN.{length, getD, take, set}
 use lib.Seq.{getD-set-same, getD-set-other}
 
 module _ {A B : Type 0} where

@@ -6,7 +6,7 @@ use native.Mathlib.Decide.{decLe}
 use native.Mathlib.Omega.{arith}
 use lib.Dec.{ltb, eqb}
 use lib.ListN.{length, take, getD, length-take}
-use lib.Seq.{take-all, take-suc, take-take, length-take-le}
+use lib.Seq.{take-all, take-suc, length-take-le}
 use borrow.Author.Tests.{ne-eqb}
 use Rattle.lists.proofs.Tests.{ltb-same}
 

@@ -10,7 +10,7 @@ use lib.Dec.{ltb, leb, eqb, leb·suc-suc}
 use lib.ListN.{length, take, getD, set}
 use lib.Seq.{take-suc}
 use borrow.Author.Tests.{lt-ltb, le-ltb, le-leb, lt-leb, eqb-false, ne-eqb}
-use Rattle.lists.specs.Tests.{any, all, firstPlace}
+use Rattle.lists.specs.Tests.{anyOf, allOf, firstPlace}
 
 -- a test that picks one thing twice
 pub cond-same : {A : Type 0} (b : Bool) (x : A) → cond b x x ≡ x
@@ -90,48 +90,48 @@ pub and-at : (tests : List Bool) → foldl _&&_ true tests ≡ true → (k : ℕ
 and-at tests e = fold-and true tests e .1
 
 module _ {A : Type 0} where
-  pub any-append : (f : A → Bool) (xs ys : List A) → any f (xs ++ ys) ≡ any f xs || any f ys
-  unfolding any
+  pub any-append : (f : A → Bool) (xs ys : List A) → anyOf f (xs ++ ys) ≡ anyOf f xs || anyOf f ys
+  unfolding anyOf
   any-append f [] ys = refl
-  any-append f (x ∷ xs) ys = ap (λ (b : Bool). f x || b) (any-append f xs ys) ∙ sym (or-assoc (f x) (any f xs) (any f ys))
+  any-append f (x ∷ xs) ys = ap (λ (b : Bool). f x || b) (any-append f xs ys) ∙ sym (or-assoc (f x) (anyOf f xs) (anyOf f ys))
 
-  pub any-one : (f : A → Bool) (x : A) → any f (x ∷ []) ≡ f x
-  unfolding any
+  pub any-one : (f : A → Bool) (x : A) → anyOf f (x ∷ []) ≡ f x
+  unfolding anyOf
   any-one f x = or-false (f x)
 
   -- the first i + 1 elements: the first i, or the one at i
-  pub any-take : (f : A → Bool) (xs : List A) (i : ℕ) (d : A) → i < length xs → any f (take (suc i) xs) ≡ any f (take i xs) || f (getD xs i d)
+  pub any-take : (f : A → Bool) (xs : List A) (i : ℕ) (d : A) → i < length xs → anyOf f (take (suc i) xs) ≡ anyOf f (take i xs) || f (getD xs i d)
   any-take f xs i d h = rw (take-suc xs i d, any-append, any-one)
 
   -- the first i + 1 elements: the first i, and the one at i
-  pub all-take : (f : A → Bool) (xs : List A) (i : ℕ) (d : A) → i < length xs → all f (take (suc i) xs) ≡ all f (take i xs) && f (getD xs i d)
-  unfolding all
+  pub all-take : (f : A → Bool) (xs : List A) (i : ℕ) (d : A) → i < length xs → allOf f (take (suc i) xs) ≡ allOf f (take i xs) && f (getD xs i d)
+  unfolding allOf
   all-take f [] i d h = absurd (not-suc-le-zero h)
   all-take f (x ∷ xs) zero d h = and-true (f x)
-  all-take f (x ∷ xs) (suc i) d h = ap (λ (b : Bool). f x && b) (all-take f xs i d (le-of-suc-le-suc h)) ∙ sym (and-assoc (f x) (all f (take i xs)) (f (getD xs i d)))
+  all-take f (x ∷ xs) (suc i) d h = ap (λ (b : Bool). f x && b) (all-take f xs i d (le-of-suc-le-suc h)) ∙ sym (and-assoc (f x) (allOf f (take i xs)) (f (getD xs i d)))
 
   -- what every element passes, the one at i passes
-  pub all-at : (f : A → Bool) (xs : List A) (i : ℕ) (d : A) → all f xs ≡ true → i < length xs → f (getD xs i d) ≡ true
-  unfolding all
+  pub all-at : (f : A → Bool) (xs : List A) (i : ℕ) (d : A) → allOf f xs ≡ true → i < length xs → f (getD xs i d) ≡ true
+  unfolding allOf
   all-at f [] i d t h = absurd (not-suc-le-zero h)
-  all-at f (x ∷ xs) zero d t h = and-eq-true-iff (f x) (all f xs) .0 t .0
-  all-at f (x ∷ xs) (suc i) d t h = all-at f xs i d (and-eq-true-iff (f x) (all f xs) .0 t .1) (le-of-suc-le-suc h)
+  all-at f (x ∷ xs) zero d t h = and-eq-true-iff (f x) (allOf f xs) .0 t .0
+  all-at f (x ∷ xs) (suc i) d t h = all-at f xs i d (and-eq-true-iff (f x) (allOf f xs) .0 t .1) (le-of-suc-le-suc h)
 
   -- where each element passes, all do
-  pub at-all : (f : A → Bool) (xs : List A) (d : A) → ((i : ℕ) → i < length xs → f (getD xs i d) ≡ true) → all f xs ≡ true
-  unfolding all
+  pub at-all : (f : A → Bool) (xs : List A) (d : A) → ((i : ℕ) → i < length xs → f (getD xs i d) ≡ true) → allOf f xs ≡ true
+  unfolding allOf
   at-all f [] d h = refl
   at-all f (x ∷ xs) d h = simp (h 0 (omega arith), at-all f xs d (λ i lt. h (suc i) (omega arith)))
 
   -- one element that passes is enough
-  pub any-at : (f : A → Bool) (xs : List A) (i : ℕ) (d : A) → i < length xs → f (getD xs i d) ≡ true → any f xs ≡ true
-  unfolding any
+  pub any-at : (f : A → Bool) (xs : List A) (i : ℕ) (d : A) → i < length xs → f (getD xs i d) ≡ true → anyOf f xs ≡ true
+  unfolding anyOf
   any-at f [] i d h t = absurd (not-suc-le-zero h)
-  any-at f (x ∷ xs) zero d h t = ap (λ (b : Bool). b || any f xs) t
+  any-at f (x ∷ xs) zero d h t = ap (λ (b : Bool). b || anyOf f xs) t
   any-at f (x ∷ xs) (suc i) d h t = ap (λ (b : Bool). f x || b) (any-at f xs i d (le-of-suc-le-suc h) t) ∙ or-true (f x)
 
   -- where none passes, the one at i does not
-  pub any-not-at : (f : A → Bool) (xs : List A) (i : ℕ) (d : A) → i < length xs → any f xs ≡ false → f (getD xs i d) ≡ false
+  pub any-not-at : (f : A → Bool) (xs : List A) (i : ℕ) (d : A) → i < length xs → anyOf f xs ≡ false → f (getD xs i d) ≡ false
   any-not-at f xs i d h none = go (f (getD xs i d)) refl
     where
       go : (b : Bool) → f (getD xs i d) ≡ b → b ≡ false
@@ -139,43 +139,43 @@ module _ {A : Type 0} where
       go false e = refl
 
   -- one element changed for another that tests the same
-  pub any-set : (f : A → Bool) (xs : List A) (i : ℕ) (a d : A) → f a ≡ f (getD xs i d) → any f (set xs i a) ≡ any f xs
-  unfolding any
+  pub any-set : (f : A → Bool) (xs : List A) (i : ℕ) (a d : A) → f a ≡ f (getD xs i d) → anyOf f (set xs i a) ≡ anyOf f xs
+  unfolding anyOf
   any-set f [] i a d e = refl
-  any-set f (x ∷ xs) zero a d e = ap (λ (b : Bool). b || any f xs) e
+  any-set f (x ∷ xs) zero a d e = ap (λ (b : Bool). b || anyOf f xs) e
   any-set f (x ∷ xs) (suc i) a d e = ap (λ (b : Bool). f x || b) (any-set f xs i a d e)
 
   -- one element that fails is enough
-  pub all-not-at : (f : A → Bool) (xs : List A) (i : ℕ) (d : A) → i < length xs → f (getD xs i d) ≡ false → all f xs ≡ false
-  all-not-at f xs i d h t = go (all f xs) refl
+  pub all-not-at : (f : A → Bool) (xs : List A) (i : ℕ) (d : A) → i < length xs → f (getD xs i d) ≡ false → allOf f xs ≡ false
+  all-not-at f xs i d h t = go (allOf f xs) refl
     where
-      go : (b : Bool) → all f xs ≡ b → b ≡ false
+      go : (b : Bool) → allOf f xs ≡ b → b ≡ false
       go true e = absurd (true≢false (sym (all-at f xs i d e h) ∙ t))
       go false e = refl
 
   -- nothing before the place passes, and the one there does
-  pub first-here : (f : A → Bool) (xs : List A) (i : ℕ) (d : A) → i < length xs → any f (take i xs) ≡ false → f (getD xs i d) ≡ true → firstPlace f xs ≡ i
-  unfolding any firstPlace
+  pub first-here : (f : A → Bool) (xs : List A) (i : ℕ) (d : A) → i < length xs → anyOf f (take i xs) ≡ false → f (getD xs i d) ≡ true → firstPlace f xs ≡ i
+  unfolding anyOf firstPlace
   first-here f [] i d h n t = absurd (not-suc-le-zero h)
   first-here f (x ∷ xs) zero d h n t = rw t
   first-here f (x ∷ xs) (suc i) d h n t =
-      let (here, later) = or-eq-false (f x) (any f (take i xs)) n in
+      let (here, later) = or-eq-false (f x) (anyOf f (take i xs)) n in
       rw here (ap suc (first-here f xs i d (le-of-suc-le-suc h) later t))
 
-  pub first-none : (f : A → Bool) (xs : List A) → any f xs ≡ false → firstPlace f xs ≡ length xs
-  unfolding any firstPlace
+  pub first-none : (f : A → Bool) (xs : List A) → anyOf f xs ≡ false → firstPlace f xs ≡ length xs
+  unfolding anyOf firstPlace
   first-none f [] n = refl
   first-none f (x ∷ xs) n =
-      let (here, later) = or-eq-false (f x) (any f xs) n in
+      let (here, later) = or-eq-false (f x) (anyOf f xs) n in
       rw here (ap suc (first-none f xs later))
 
   -- the first place is inside the list exactly if some element passes
-  pub first-inside : (f : A → Bool) (xs : List A) → ltb (firstPlace f xs) (length xs) ≡ any f xs
-  unfolding any firstPlace
+  pub first-inside : (f : A → Bool) (xs : List A) → ltb (firstPlace f xs) (length xs) ≡ anyOf f xs
+  unfolding anyOf firstPlace
   first-inside f [] = refl
   first-inside f (x ∷ xs) = go (f x) (first-inside f xs)
     where
-      go : (b : Bool) → ltb (firstPlace f xs) (length xs) ≡ any f xs → ltb (cond b 0 (suc (firstPlace f xs))) (suc (length xs)) ≡ b || any f xs
+      go : (b : Bool) → ltb (firstPlace f xs) (length xs) ≡ anyOf f xs → ltb (cond b 0 (suc (firstPlace f xs))) (suc (length xs)) ≡ b || anyOf f xs
       go true e = lt-ltb 0 (suc (length xs)) (omega arith)
       go false e = leb·suc-suc (suc (firstPlace f xs)) (length xs) ∙ e
 

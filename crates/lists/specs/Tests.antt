@@ -5,14 +5,14 @@ use Prim.Native.Nat.{ℕ, suc}
 
 module _ {A : Type 0} where
   -- some element passes
-  unfoldable pub any : (A → Bool) → List A → Bool
-  any f [] = false
-  any f (x ∷ xs) = f x || any f xs
+  unfoldable pub anyOf : (A → Bool) → List A → Bool
+  anyOf f [] = false
+  anyOf f (x ∷ xs) = f x || anyOf f xs
 
   -- every element passes
-  unfoldable pub all : (A → Bool) → List A → Bool
-  all f [] = true
-  all f (x ∷ xs) = f x && all f xs
+  unfoldable pub allOf : (A → Bool) → List A → Bool
+  allOf f [] = true
+  allOf f (x ∷ xs) = f x && allOf f xs
 
   -- the elements that pass, in their order
   unfoldable pub those : (A → Bool) → List A → List A

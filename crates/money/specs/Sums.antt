@@ -1,7 +1,7 @@
--- The sums over the seats that the calls ask for, as one value.
+-- The sums over the seats that the calls ask for (document 01, "Payment" and numbers 14 and 16), as one value.
 use mathlib.Core.List.{List}
 use Prim.Native.Nat.{ℕ, _+_, min}
-use Rattle.lists.specs.Sum.{sum}
+use Rattle.lists.specs.Sum.{sumOf}
 use Rattle.options.specs.declared.Options.{Options}
 use Rattle.table.specs.declared.Seat.{Seat}
 use Rattle.table.specs.declared.Table.{Table}
@@ -18,7 +18,7 @@ capped purse = min purse (mostMoney + 1)
 
 -- The sums over a list of seats, and of a table.
 abbrev pub sumsOver : Options → List Seat → Sums
-sumsOver o seats = makeSums (sum laid seats) (sum (prizes o) seats) (sum seatCover seats) (sum (λ s. capped (purse s)) seats)
+sumsOver o seats = makeSums (sumOf laid seats) (sumOf (prizes o) seats) (sumOf seatCover seats) (sumOf (λ s. capped (purse s)) seats)
 
 abbrev pub tableSums : Table → Sums
 tableSums t = sumsOver (t .options) (t .seats)

@@ -1,4 +1,4 @@
-// The test of 10^15, for any table and any amount: no sum wraps.
+// The test of document 01's 10^15 ("all money on the table"), for any table and any amount: no sum wraps.
 ghost use mathlib.Core.Path.{_≡_};
 ghost use Prim.Native.Nat.{_+_};
 ghost use lib.Dec.{ltb};

@@ -1,6 +1,6 @@
 // What a seat has laid in this round, and its prizes. Every value is taken, a damaged count too.
 ghost use mathlib.Core.Path.{_≡_};
-ghost use Rattle.lists.specs.Sum.{sum};
+ghost use Rattle.lists.specs.Sum.{sumOf};
 ghost use Rattle.rules.specs.SeatHand.{handsOf};
 ghost use Rattle.payment.specs.Wager.{wager as wagerOf};
 ghost use Rattle.table.specs.Seat.{laid as laidOf, prizes as prizesOf};
@@ -13,7 +13,7 @@ use table::Seat;
 
 // The wagers of the hands in use.
 fn wagers(stake: u32, hands: SeatHands) -> u64
-    ensures { λ r. ⌜ r ≡ sum (wagerOf stake) (handsOf hands) ⌝ }
+    ensures { λ r. ⌜ r ≡ sumOf (wagerOf stake) (handsOf hands) ⌝ }
 {
     let n = used(hands);
     let mut all: u64 = 0;

@@ -10,7 +10,7 @@ use table::Seat;
 use table::Table;
 
 // All money on a table is at most 10^15.
-pub const MOST_MONEY: u64 = 1000000000000000;
+pub(crate) const MOST_MONEY: u64 = 1000000000000000;
 
 // What the seats have laid, their prizes, what the tray must hold for them, and what is in their purses.
 pub struct Sums {
@@ -24,7 +24,11 @@ pub struct Sums {
 fn cut(purse: u64) -> u64
     ensures { λ r. ⌜ r ≡ capped purse ⌝ }
 {
-    if MOST_MONEY < purse { MOST_MONEY + 1 } else { purse }
+    if MOST_MONEY < purse {
+        MOST_MONEY + 1
+    } else {
+        purse
+    }
 }
 
 // The sums of one seat.

@@ -1,14 +1,13 @@
--- Options are in range where the facts of `InRange` hold, and only there.
+-- Options in range, as the facts of `InRange`: each test of a range gives its two orders.
 use mathlib.Core.Path.{_≡_}
 use mathlib.Core.Bool.{Bool, true, false, cond, _&&_, and-eq-true-iff}
 use Prim.Native.Nat.{ℕ, _*_, _≤_, _<_, zero-le}
 use native.Mathlib.Nat.{le-refl}
-use native.Mathlib.Decide.{decLe}
 use native.Mathlib.Omega.{arith}
 use lib.Dec.{leb, eqb}
 use lib.ListN.{getD}
-use borrow.Author.Tests.{leb-true, le-leb, eqb-true, eq-eqb, ne-eqb}
-use Rattle.lists.specs.Tests.{all}
+use borrow.Author.Tests.{leb-true, eqb-true, eq-eqb, ne-eqb}
+use Rattle.lists.specs.Tests.{allOf}
 use Rattle.lists.proofs.Tests.{all-at}
 use Rattle.options.specs.declared.Options.{Options}
 use Rattle.options.specs.declared.Bounds.{Bounds}
@@ -21,15 +20,12 @@ within-facts r e =
     let both = and-eq-true-iff (leb (r .least) (r .value)) (leb (r .value) (r .most)) .0 e in
     (leb-true _ _ (both .0), leb-true _ _ (both .1))
 
-facts-within : {value least most : ℕ} → least ≤ value → value ≤ most → within (range value least most) ≡ true
-facts-within low high = simp (le-leb _ _ low, le-leb _ _ high)
-
 -- the three tests of `inRange`
-tests : (o : Options) → inRange o ≡ true → ((all within (ranges o) ≡ true) × (isEvenNumber (o .smallest) ≡ true)) × (isEvenNumber (o .largest) ≡ true)
+tests : (o : Options) → inRange o ≡ true → ((allOf within (ranges o) ≡ true) × (isEvenNumber (o .smallest) ≡ true)) × (isEvenNumber (o .largest) ≡ true)
 unfolding inRange
 tests o e =
-    let both = and-eq-true-iff (all within (ranges o) && isEvenNumber (o .smallest)) (isEvenNumber (o .largest)) .0 e in
-    (and-eq-true-iff (all within (ranges o)) (isEvenNumber (o .smallest)) .0 (both .0), both .1)
+    let both = and-eq-true-iff (allOf within (ranges o) && isEvenNumber (o .smallest)) (isEvenNumber (o .largest)) .0 e in
+    (and-eq-true-iff (allOf within (ranges o)) (isEvenNumber (o .smallest)) .0 (both .0), both .1)
 
 -- the value at each place of the list lies in its range
 range-at : (o : Options) → inRange o ≡ true → (k : ℕ) → k < 14 → let r = getD (ranges o) k (range 0 0 0) in (r .least ≤ r .value) × (r .value ≤ r .most)
@@ -72,35 +68,3 @@ in-range-facts o e =
       smallest-even = eqb-true _ _ (tests o e .0 .1);
       largest-even = eqb-true _ _ (tests o e .1);
     }
-
--- the cut lies in its range, with one deck and with more
-within-cut : (o : Options) → InRange o → within (range (o .cut) (leastCut (o .decks)) (mostCut (o .decks))) ≡ true
-within-cut o f = go (decLe (o .decks) 1)
-  where
-    go : Dec (o .decks ≤ 1) → within (range (o .cut) (leastCut (o .decks)) (mostCut (o .decks))) ≡ true
-    go (yes h) = let one : o .decks ≡ 1 = omega arith in simp (eq-eqb (o .decks) 1 one, f .cut-one one)
-    go (no h) =
-        let more : o .decks ≡ 1 → ⊥ = λ one. omega arith in
-        simp (ne-eqb (o .decks) 1 more, le-leb _ _ (f .cut-least (omega arith)), le-leb _ _ (f .cut-most))
-
-pub facts-in-range : (o : Options) → InRange o → inRange o ≡ true
-unfolding inRange ranges all
-facts-in-range o f =
-    simp (
-      facts-within (f .seats-least) (f .seats-most),
-      facts-within (f .decks-least) (f .decks-most),
-      facts-within (f .first-least) (f .first-most),
-      facts-within zero-le (f .later-most),
-      facts-within (f .hands-least) (f .hands-most),
-      facts-within zero-le (f .aces-most),
-      facts-within (f .double-least) (f .double-most),
-      facts-within zero-le (f .limit-most),
-      facts-within (f .insurance-least) (f .insurance-most),
-      facts-within zero-le (f .five-most),
-      facts-within zero-le (f .prize-most),
-      within-cut o f,
-      facts-within (f .smallest-least) (f .smallest-most),
-      facts-within (f .smallest-most) (f .largest-most),
-      eq-eqb _ _ (f .smallest-even),
-      eq-eqb _ _ (f .largest-even),
-    )

@@ -1,4 +1,4 @@
--- House options, given at opening: their ranges, and the test that decides them.
+-- House options, given at opening: their ranges with the test that decides them, and the amounts that they permit a guest.
 pub mod Ranges
 pub mod Permitted
 -- What only proofs and the contracts of private functions cite: nothing here has to be believed.

@@ -1,4 +1,4 @@
--- Document 01, "House options, given at opening", smallest and largest stake and insurance (articles 4 and 12): the amounts that a guest may lay.
+-- Document 01, "House options, given at opening", the smallest and largest stake and insurance (article 12): the amounts that a guest may lay.
 use mathlib.Core.Bool.{Bool, cond, _&&_}
 use Prim.Native.Nat.{ℕ, _*_}
 use lib.Dec.{leb, eqb}

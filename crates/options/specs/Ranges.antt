@@ -3,7 +3,7 @@ use mathlib.Core.Bool.{Bool, cond, _&&_}
 use mathlib.Core.List.{List, [], _∷_}
 use Prim.Native.Nat.{ℕ, _*_, _%_}
 use lib.Dec.{leb, eqb}
-use Rattle.lists.specs.Tests.{all}
+use Rattle.lists.specs.Tests.{allOf}
 use Rattle.options.specs.declared.Options.{Options}
 use Rattle.options.specs.declared.Bounds.{Bounds}
 
@@ -47,7 +47,7 @@ isEvenNumber n = eqb (n % 2) 0
 
 -- No option is outside its range (number 2), and both stakes are even.
 unfoldable pub inRange : Options → Bool
-inRange o = all within (ranges o) && isEvenNumber (o .smallest) && isEvenNumber (o .largest)
+inRange o = allOf within (ranges o) && isEvenNumber (o .smallest) && isEvenNumber (o .largest)
 
 -- No options: every value 0, which is outside the ranges. The empty table has these.
 abbrev pub noOptions : Options

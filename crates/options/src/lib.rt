@@ -2,7 +2,7 @@
 pub mod permitted;
 
 ghost use mathlib.Core.Path.{_≡_};
-ghost use Rattle.lists.specs.Tests.{all};
+ghost use Rattle.lists.specs.Tests.{allOf};
 ghost use Rattle.options.specs.Ranges.{within as isWithin, range as rangeOf, leastCut, mostCut, ranges as rangesOf, inRange};
 
 // The options in document 01's order. Every value is taken: `in_range` says whether a table may open with them.
@@ -98,7 +98,7 @@ fn ranges(o: Options) -> [Bounds; 14]
 }
 
 fn all_within(rs: [Bounds; 14]) -> bool
-    ensures { λ r. ⌜ r ≡ all isWithin rs ⌝ }
+    ensures { λ r. ⌜ r ≡ allOf isWithin rs ⌝ }
 {
     for i in 0usize..14 {
         let r = rs[i];

@@ -1,4 +1,4 @@
-// The amounts that the options permit: a stake, and an insurance of a stake.
+// The amounts that the options permit (document 01, "House options, given at opening"): a stake, and an insurance of a stake. Every value is taken.
 ghost use mathlib.Core.Path.{_≡_};
 ghost use Rattle.options.specs.Permitted.{stakePermitted, insurancePermitted};
 use crate::Options;

@@ -8,7 +8,7 @@ use native.Mathlib.Omega.{arith}
 use lib.Dec.{eqb}
 use lib.ListN.{length}
 use borrow.Author.Tests.{eq-eqb, ne-eqb}
-use Rattle.lists.specs.Sum.{sum}
+use Rattle.lists.specs.Sum.{sumOf}
 use Rattle.lists.proofs.Picks.{cond-most, cond-least}
 use Rattle.lists.proofs.Sums.{sum-most}
 use Rattle.cards.specs.PrizeHand.{isPrizeHand}
@@ -45,5 +45,5 @@ module _ (o : Options) (S : ℕ) where
   unfolding prize
   prize-same h g same = simp same
 
-  pub seat-prizes : (hands : List Played) → length hands ≤ 4 → sum (prize o S) hands ≤ 12 * S
+  pub seat-prizes : (hands : List Played) → length hands ≤ 4 → sumOf (prize o S) hands ≤ 12 * S
   seat-prizes hands few = omega (arith, mul-le-mul-left (3 * S) few, sum-most (prize o S) (3 * S) prize-most hands)

@@ -1,4 +1,3 @@
--- The theorem of the rehearsal hands.
+-- The theorem of the rehearsal hands, and laws of wager and prize that the layers above cite.
 pub mod Theorem
--- Laws of wager and prize that the layers above cite.
 pub mod Bounds

@@ -1,7 +1,7 @@
 -- Every rehearsal hand comes to what document 01 says: each line of the table is computed from the definitions.
 use mathlib.Core.Path.{refl}
-use Rattle.lists.specs.Sum.{sum}
-use Rattle.lists.specs.Tests.{any}
+use Rattle.lists.specs.Sum.{sumOf}
+use Rattle.lists.specs.Tests.{anyOf}
 use Rattle.cards.specs.Points.{pointsOf}
 use Rattle.cards.specs.Total.{total}
 use Rattle.cards.specs.Natural.{isNatural}
@@ -14,7 +14,7 @@ use Rattle.payment.specs.Insurance.{insurancePay}
 use Rattle.payment.specs.RehearsalHands.{RehearsalHands}
 
 pub rehearsal-hands : RehearsalHands
-unfolding sum any pointsOf total isNatural isPair natural mustDraw wager handBack againstBank againstNatural byTotals insurancePay
+unfolding sumOf anyOf pointsOf total isNatural isPair natural mustDraw wager handBack againstBank againstNatural byTotals insurancePay
 rehearsal-hands =
     record {
       ace-ace = refl;

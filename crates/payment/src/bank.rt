@@ -1,4 +1,4 @@
-// How the bank's cards stand: whether it must draw, and what payment asks of them.
+// How the bank's cards stand (articles 6 and 10): whether it must draw, and what payment asks of them.
 ghost use mathlib.Core.Path.{_≡_};
 ghost use Rattle.cards.specs.Hand.{cardsOf};
 ghost use Rattle.payment.specs.Bank.{mustDraw, scoreOf};

@@ -1,4 +1,4 @@
-// The cover of a seat: what it can take from the tray in one round.
+// The cover of a seat (document 01, number 16): what it can take from the tray in one round.
 ghost use mathlib.Core.Path.{_≡_};
 ghost use Rattle.payment.specs.Cover.{cover as coverOf};
 

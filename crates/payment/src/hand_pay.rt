@@ -1,4 +1,4 @@
-// The pay of a hand: the first rule that fits.
+// The pay of a hand (document 01, "Payment"): the first rule that fits. Every stake of 32 bits and every hand is taken.
 ghost use mathlib.Core.Path.{_≡_};
 ghost use Prim.Native.Nat.{_*_, _≤_};
 ghost use Rattle.cards.specs.Hand.{cardsOf};

@@ -1,1 +1,2 @@
+-- Laws of the figures that the rehearsal prints.
 pub mod Nets

@@ -3,7 +3,7 @@ ghost use Prim.Native.Nat.{_≤_};
 use crate::lines;
 use crate::stage::Stage;
 use crate::stage::lent;
-use answer::Reply;
+use answer::reply::Reply;
 use call::At;
 use call::Call;
 use engine::step;
@@ -93,7 +93,7 @@ fn played(t: Table, letter: u8, at: At, amount: u64, order: Order) -> Reply {
 }
 
 // One row: at 2 stands the seat, at 4 the amount, at 21 the words.
-pub fn called(s: Stage, row: &[u8]) -> Stage
+pub(crate) fn called(s: Stage, row: &[u8]) -> Stage
     requires { do ⌜ 21 ≤ (← ⟦row.len()⟧) ⌝ }
 {
     let t = s.table;

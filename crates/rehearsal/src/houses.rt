@@ -1,4 +1,4 @@
-// Orders and openings.
+// The orders and openings of the script: which cards come first, and the house's options.
 ghost use Prim.Native.Nat.{_≤_};
 use crate::lines;
 use crate::stage::Stage;
@@ -76,7 +76,7 @@ fn order_of(row: &[u8]) -> Order
 }
 
 // The order that the next opening or load is lent.
-pub fn ordered(s: Stage, row: &[u8]) -> Stage
+pub(crate) fn ordered(s: Stage, row: &[u8]) -> Stage
     requires { do ⌜ 21 ≤ (← ⟦row.len()⟧) ⌝ }
 {
     let order = order_of(row);
@@ -113,7 +113,7 @@ fn opened_by(cards: [u8; 416], count: usize, o: Options) -> Outcome {
 }
 
 // An opening with the order that was lent last.
-pub fn opened(s: Stage, row: &[u8]) -> Stage {
+pub(crate) fn opened(s: Stage, row: &[u8]) -> Stage {
     if row.len() < 34 {
         return s;
     }

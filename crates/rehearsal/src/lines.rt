@@ -1,8 +1,8 @@
-// What the rehearsal writes.
+// What the rehearsal writes: a line for each call, then the table or the pay lines that a row asks for.
 ghost use Prim.Native.Nat.{_≤_, _+_};
-use answer::Answer;
-use answer::PayLines;
-use answer::Settlement;
+use answer::reply::Answer;
+use answer::settlement::PayLines;
+use answer::settlement::Settlement;
 use call::INSURANCE;
 use call::PayLine;
 use cards::hand::Hand;
@@ -41,7 +41,7 @@ fn line_at(text: &[u8], at: usize)
 }
 
 // What the script says of the rows that follow.
-pub fn heading(text: &[u8]) {
+pub(crate) fn heading(text: &[u8]) {
     words(text);
     words(b"\n");
 }
@@ -60,7 +60,7 @@ fn figures(number: u8, t: Table, what: &[u8]) {
 }
 
 // The line of an opening.
-pub fn opened(number: u8, t: Table, what: &[u8]) {
+pub(crate) fn opened(number: u8, t: Table, what: &[u8]) {
     words(b"open");
     figures(number, t, what);
 }
@@ -168,7 +168,7 @@ fn name(letter: u8) {
 }
 
 // The line of a call, and what it shows.
-pub fn called(letter: u8, answer: Answer, t: Table, what: &[u8]) {
+pub(crate) fn called(letter: u8, answer: Answer, t: Table, what: &[u8]) {
     name(letter);
     figures(answer.number, t, what);
     settlement(answer.settlement);
@@ -204,7 +204,7 @@ fn hand(place: usize, h: HandShown) {
 }
 
 // The hands of a seat, in their places.
-pub fn hands(t: Table, seat: u8) {
+pub(crate) fn hands(t: Table, seat: u8) {
     let shown = shown_seat(t, seat);
     let n = shown.hands;
     for place in 0usize..4 {
@@ -215,7 +215,7 @@ pub fn hands(t: Table, seat: u8) {
 }
 
 // Whose turn it is.
-pub fn turn(t: Table) {
+pub(crate) fn turn(t: Table) {
     let shown = shown_turn(t);
     if !shown.somebody {
         words(b"  nobody's turn\n");

@@ -40,7 +40,7 @@ fn row_played(s: Stage, row: &[u8]) -> Stage
 }
 
 // Each row long enough to be one.
-pub fn each(text: &[u8]) {
+pub(crate) fn each(text: &[u8]) {
     let mut s = first_stage();
     let mut at = 0;
     while at < text.len() {

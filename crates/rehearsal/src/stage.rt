@@ -6,13 +6,13 @@ use script::orders::begun_order;
 use state::empty::no_options;
 use table::Table;
 
-pub struct Stage {
+pub(crate) struct Stage {
     pub table: Table,
     pub order: Order,
 }
 
 // The empty table, which a refused opening gives, and no order.
-pub fn first_stage() -> Stage {
+pub(crate) fn first_stage() -> Stage {
     let order = begun_order(b"", 0);
     let refused = opening(no_options(), b"");
     let table = refused.table;
@@ -20,7 +20,7 @@ pub fn first_stage() -> Stage {
 }
 
 // How many cards of an order are lent: its count, which is 416 at most.
-pub fn lent(count: usize) -> usize
+pub(crate) fn lent(count: usize) -> usize
     ensures { λ r. ⌜ r ≤ 416 ⌝ }
 {
     if 416 < count { 416 } else { count }

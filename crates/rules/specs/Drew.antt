@@ -3,9 +3,9 @@ use mathlib.Core.Bool.{Bool, not, _||_}
 use mathlib.Core.List.{List}
 use lib.Dec.{ltb}
 use lib.ListN.{length}
-use Rattle.lists.specs.Tests.{any}
+use Rattle.lists.specs.Tests.{anyOf}
 use Rattle.rules.specs.SeatHand.{Played, hasTwoCards}
 
 -- A seat has drawn, doubled or split: it has more than one hand, or one that has not exactly two cards.
 unfoldable pub seatDrew : List Played → Bool
-seatDrew hands = ltb 1 (length hands) || any (λ h. not (hasTwoCards h)) hands
+seatDrew hands = ltb 1 (length hands) || anyOf (λ h. not (hasTwoCards h)) hands

@@ -1,13 +1,12 @@
--- A hand in its seat: where it comes from, how it ended, and whether even and five are open to it.
+-- Document 01, "The seventeen calls", the guest: the rules of a hand in its seat, which calls and history share.
+-- Where a hand comes from and how it ended; whether even and five are open to it.
 pub mod SeatHand
 pub mod OpenCalls
--- Which hand waits.
+-- Which hand waits, and whose turn it is.
 pub mod Waits
--- Whose turn it is.
 pub mod Turn
--- Whether the rules permit stand, draw, double and split, purse and shoe left aside.
+-- Which decision the rules permit, purse and shoe left aside.
 pub mod Permits
--- Whether the rules permit even, five and surrender.
 pub mod Leaving
 -- Whether a seat has drawn, doubled or split.
 pub mod Drew

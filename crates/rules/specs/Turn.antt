@@ -3,14 +3,14 @@ use mathlib.Core.Bool.{Bool}
 use mathlib.Core.List.{List, []}
 use Prim.Native.Nat.{ℕ}
 use lib.ListN.{length, getD}
-use Rattle.lists.specs.Tests.{any, firstPlace}
+use Rattle.lists.specs.Tests.{anyOf, firstPlace}
 use Rattle.options.specs.declared.Options.{Options}
 use Rattle.rules.specs.SeatHand.{Played}
 use Rattle.rules.specs.Waits.{waits}
 
 -- Some hand of the seat waits.
 abbrev pub seatWaits : Options → ℕ → List Played → Bool
-seatWaits o up hands = any (waits o up (length hands)) hands
+seatWaits o up hands = anyOf (waits o up (length hands)) hands
 
 -- The place of the seat's first waiting hand; the number of its hands where none waits.
 abbrev pub waitingPlace : Options → ℕ → List Played → ℕ
@@ -18,7 +18,7 @@ waitingPlace o up hands = firstPlace (waits o up (length hands)) hands
 
 -- Some hand on the table waits.
 abbrev pub someWaits : Options → ℕ → List (List Played) → Bool
-someWaits o up seats = any (seatWaits o up) seats
+someWaits o up seats = anyOf (seatWaits o up) seats
 
 -- The seat whose turn it is: the first with a waiting hand; the number of seats where nobody's turn it is.
 abbrev pub turnSeat : Options → ℕ → List (List Played) → ℕ

@@ -4,7 +4,7 @@ use mathlib.Core.List.{List}
 use Prim.Native.Nat.{ℕ}
 use lib.Dec.{ltb, eqb}
 use lib.ListN.{length}
-use Rattle.lists.specs.Tests.{all}
+use Rattle.lists.specs.Tests.{allOf}
 use Rattle.cards.specs.Card.{isAce}
 use Rattle.cards.specs.Total.{total}
 use Rattle.options.specs.declared.Options.{Options}
@@ -13,7 +13,7 @@ use Rattle.rules.specs.OpenCalls.{evenOpen, fiveOpen}
 
 -- Two aces.
 unfoldable pub isTwoAces : List ℕ → Bool
-isTwoAces cards = eqb (length cards) 2 && all isAce cards
+isTwoAces cards = eqb (length cards) 2 && allOf isAce cards
 
 -- A hand from split aces (article 16 n.º 3) waits only if it is two aces, aces may split again and the seat (of `many` hands) has fewer than its hands.
 unfoldable pub acesWait : Options → ℕ → Played → Bool

@@ -45,7 +45,7 @@ pub fn used(s: SeatHands) -> usize
 }
 
 // Whether the hand has exactly two cards.
-pub fn has_two_cards(h: SeatHand) -> bool
+pub(crate) fn has_two_cards(h: SeatHand) -> bool
     ensures { λ r. ⌜ r ≡ hasTwoCards (playedOf h) ⌝ }
 {
     let hand = h.hand;

@@ -1,4 +1,4 @@
-// Which hand waits.
+// Which hand waits (document 01, "The seventeen calls"), in a seat of so many hands against the up card.
 ghost use mathlib.Core.Path.{_≡_};
 ghost use Rattle.cards.specs.Hand.{cardsOf};
 ghost use Rattle.rules.specs.SeatHand.{playedOf};

@@ -4,7 +4,7 @@ use mathlib.Core.List.{List, [], _∷_}
 use Prim.Native.Nat.{ℕ, zero, suc, _+_, _-_}
 use lib.Dec.{ltb}
 use lib.ListN.{set, replicate}
-use Rattle.lists.specs.Sum.{count}
+use Rattle.lists.specs.Sum.{countOf}
 use Rattle.script.specs.declared.orders.Order.{Order}
 
 abbrev pub emptyOrder : Order
@@ -26,7 +26,7 @@ placedFace o face decks used = placedAll o (replicate (decks - used) face)
 -- The first n faces so, rising.
 unfoldable pub placedFaces : Order → List ℕ → ℕ → ℕ → Order
 placedFaces o first decks zero = o
-placedFaces o first decks (suc n) = placedFace (placedFaces o first decks n) n decks (count n first)
+placedFaces o first decks (suc n) = placedFace (placedFaces o first decks n) n decks (countOf n first)
 
 -- The order that begins with these cards.
 unfoldable pub begun : List ℕ → ℕ → Order

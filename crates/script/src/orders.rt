@@ -1,6 +1,6 @@
 // Orders that begin with cards of one's choice: the other faces follow, rising, so that each comes as often as there are decks.
 ghost use mathlib.Core.Path.{_≡_};
-ghost use Rattle.lists.specs.Sum.{count};
+ghost use Rattle.lists.specs.Sum.{countOf};
 ghost use Rattle.script.specs.Begun.{emptyOrder, placed, placedAll, placedFace, begun};
 
 // Cards together with their number, in the array that a load reads.
@@ -46,7 +46,7 @@ fn placed_cards(cards: &[u8]) -> Order
 
 // How often a face is among the cards.
 fn seen(cards: &[u8], face: u8) -> usize
-    ensures { λ r. ⌜ r ≡ count face (now (cards .entry)) ⌝ }
+    ensures { λ r. ⌜ r ≡ countOf face (now (cards .entry)) ⌝ }
 {
     let mut n: usize = 0;
     for i in 0usize..cards.len() {

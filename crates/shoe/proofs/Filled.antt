@@ -1,4 +1,4 @@
--- A new shoe: the array that the order is copied into.
+-- The array of a new shoe: the order in front, zeros behind it.
 use mathlib.Core.Path.{_≡_, _∙_, ap, ap₂}
 use mathlib.Core.List.{List, _++_}
 use Prim.Native.Nat.{ℕ, _-_}

@@ -1,3 +1,4 @@
--- Laws of a new shoe and of the cards left, as loops cite them.
+-- Laws of a new shoe, of the cards left and of the discards, as the loops here and in the calls cite them.
 pub mod Filled
 pub mod Left
+pub mod Discards

@@ -1,3 +1,2 @@
--- The array of a shoe before any card is in it.
--- What only proofs and the contracts of private functions cite: nothing here has to be believed.
+-- The array of a shoe before any card is in it, for the contract of a private function.
 pub mod Aids

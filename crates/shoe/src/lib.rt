@@ -1,7 +1,4 @@
-// Cards of the shoe: those ahead, so many drawn, and a new shoe.
-pub mod discards;
-pub mod gathering;
-
+// Cards of the shoe (document 01, "The seventeen calls"): those ahead, so many drawn, and the new shoe of a load.
 ghost use mathlib.Core.Path.{_≡_};
 ghost use Prim.Native.Nat.{_+_, _≤_};
 ghost use lib.ListN.{length, getD};

@@ -1,4 +1,4 @@
-// What holds nothing: options of 0, which no table opens with, and a seat with no money and no hand.
+// The values of an empty table: options of 0, which no table opens with, and a seat with no money and no hand.
 ghost use mathlib.Core.Path.{_≡_};
 ghost use Rattle.options.specs.Ranges.{noOptions};
 ghost use Rattle.table.specs.Seat.{emptySeat};

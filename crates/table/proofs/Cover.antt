@@ -4,7 +4,7 @@ use mathlib.Core.Bool.{true}
 use Prim.Native.Nat.{ℕ, _+_, _*_, _≤_, _<_}
 use native.Mathlib.Omega.{arith}
 use lib.ListN.{length}
-use Rattle.lists.specs.Sum.{sum}
+use Rattle.lists.specs.Sum.{sumOf}
 use Rattle.lists.proofs.Sums.{sum-at-most, sum-plus, sum-has}
 use Rattle.cards.specs.Card.{isAce}
 use Rattle.payment.proofs.Bounds.{seat-prizes}
@@ -20,7 +20,7 @@ module _ (t : Table) (full : length (t .seats) ≡ 9) (sound : Sound t) where
   few : (i : ℕ) → i < 9 → length (hands (seatAt t i)) ≤ 4
   few i h = few-hands (t .options) (isDealt t) (isAce (up t)) i (seatAt t i) (sound-options t sound .hands-most) (sound .seats i h)
 
-  room : sum (λ s. prizes (t .options) s + 8 * stake s) (t .seats) ≤ allCover t
+  room : sumOf (λ s. prizes (t .options) s + 8 * stake s) (t .seats) ≤ allCover t
   unfolding prizes
   room =
       sum-at-most (λ s. prizes (t .options) s + 8 * stake s) seatCover (t .seats) missingSeat

@@ -9,8 +9,8 @@ use lib.Dec.{ltb, leb, eqb}
 use lib.ListN.{length, take, getD, length-take, length-append, length-map, length-drop}
 use lib.Seq.{getD-take}
 use borrow.Author.Tests.{ltb-true, ltb-false, leb-true, leb-false, eqb-true, lt-ltb, le-ltb, le-leb, eq-eqb, ne-eqb, not-true, not-false}
-use Rattle.lists.specs.Sum.{count, sum}
-use Rattle.lists.specs.Tests.{all}
+use Rattle.lists.specs.Sum.{countOf, sumOf}
+use Rattle.lists.specs.Tests.{allOf}
 use Rattle.lists.specs.Below.{allBelow}
 use Rattle.lists.proofs.Tests.{and-at, or-other, or-unless, test-some, some-test, test-where, where-test, all-at, at-all}
 use Rattle.lists.proofs.Below.{all-below, below-all}
@@ -99,7 +99,7 @@ playing-facts : (o : Options) (dealt : Bool) (s : Seat) → soundHands o dealt s
 unfolding soundHands
 playing-facts o dealt s e some =
     let n = s .hands .many in
-    let tests = ltb 0 n ∷ leb n (o .hands) ∷ dealt ∷ isStaked s ∷ all soundHand (take n (s .hands .places)) ∷ [] in
+    let tests = ltb 0 n ∷ leb n (o .hands) ∷ dealt ∷ isStaked s ∷ allOf soundHand (take n (s .hands .places)) ∷ [] in
     let test = and-at tests (simp (ne-eqb n 0 (λ none. omega arith)) at e) in
     record {
       in-round = test 2;
@@ -108,7 +108,7 @@ playing-facts o dealt s e some =
       each = λ p h l. hand-facts _ (rw getD-take at (all-at soundHand (take n (s .hands .places)) p missingPlace (test 4) (omega (arith, length-take n (s .hands .places)))));
     }
 
-each-test : (s : Seat) → ((p : ℕ) → p < s .hands .many → p < length (s .hands .places) → SoundHand (getD (s .hands .places) p missingPlace)) → all soundHand (take (s .hands .many) (s .hands .places)) ≡ true
+each-test : (s : Seat) → ((p : ℕ) → p < s .hands .many → p < length (s .hands .places) → SoundHand (getD (s .hands .places) p missingPlace)) → allOf soundHand (take (s .hands .many) (s .hands .places)) ≡ true
 each-test s f =
     at-all soundHand (take (s .hands .many) (s .hands .places)) missingPlace (λ p h.
     let used : p < s .hands .many = omega (arith, length-take (s .hands .many) (s .hands .places)) in
@@ -181,7 +181,7 @@ sound-facts t e =
     let tests = inRange (t .options) ∷ soundShoe t ∷ soundFaces t ∷ allBelow (seatSound t) 9 ∷ soundBank t ∷ soundMoney t ∷ [] in
     let test = and-at tests e in
     let shoe = and-at (validOrder (t .options .decks) (tableOrder t) ∷ leb (t .shoe .drawn) (52 * t .options .decks) ∷ leb (t .shoe .discarded) 416 ∷ []) (test 1) in
-    let faces = and-at (allBelow (λ b. eqb (count b (outCards t)) (count b (tableDrawn t))) 256 ∷ eqb (length (outCards t)) (t .shoe .drawn) ∷ []) (test 2) in
+    let faces = and-at (allBelow (λ b. eqb (countOf b (outCards t)) (countOf b (tableDrawn t))) 256 ∷ eqb (length (outCards t)) (t .shoe .drawn) ∷ []) (test 2) in
     let money = and-at (leb (allMoney t) mostMoney ∷ (not (isDealt t) || leb (allCover t) (t .tray + allPrizes t)) ∷ []) (test 5) in
     record {
       options = test 0;
@@ -205,7 +205,7 @@ facts-sound t twenty f =
       f .valid,
       le-leb _ _ (f .drawn),
       le-leb _ _ (f .discarded),
-      below-all (λ b. eqb (count b (outCards t)) (count b (tableDrawn t))) 256 (λ b h. eq-eqb _ _ (f .faces b h)),
+      below-all (λ b. eqb (countOf b (outCards t)) (countOf b (tableDrawn t))) 256 (λ b h. eq-eqb _ _ (f .faces b h)),
       eq-eqb _ _ (f .number),
       below-all (seatSound t) 9 (λ i h. facts-seat (t .options) (isDealt t) (isAce (up t)) i (seatAt t i) (f .seats i h)),
       facts-bank t twenty (f .bank) (f .round),
@@ -269,7 +269,7 @@ unfolding laid
 laid-stake s none = rw none
 
 pub no-prizes : (o : Options) (s : Seat) → s .hands .many ≡ 0 → prizes o s ≡ 0
-unfolding prizes sum
+unfolding prizes sumOf
 no-prizes o s none = rw none
 
 -- the cards left are as many as the count says

@@ -7,7 +7,7 @@ use Prim.Native.Nat.{ℕ, _+_, _*_, _≤_, _<_}
 use native.Mathlib.Omega.{arith}
 use lib.ListN.{length, take, getD, length-take, length-drop, length-map, List·getD-map, getD-replicate}
 use lib.Seq.{sets, take-add, length-sets}
-use Rattle.lists.specs.Sum.{sum, isIt}
+use Rattle.lists.specs.Sum.{sumOf, isIt}
 use Rattle.lists.specs.Flat.{flat}
 use Rattle.lists.proofs.Sums.{sum-append, sum-map, sum-none, sum-ones}
 use Rattle.lists.proofs.Places.{getD-any}
@@ -19,7 +19,7 @@ use Rattle.rules.specs.declared.seat_hand.SeatHand.{SeatHand}
 use Rattle.table.specs.declared.Seat.{Seat}
 use Rattle.table.specs.declared.Shoe.{Shoe}
 use Rattle.table.specs.declared.Table.{Table}
-use Rattle.table.specs.Seat.{money, makeSeat, emptyHands, missingSeat, emptyPlace, missingPlace, purse, laid, prizes, seatCards}
+use Rattle.table.specs.Seat.{clearedSeat, missingSeat, emptyPlace, missingPlace, purse, laid, prizes, seatCards}
 use Rattle.table.specs.Shoe.{discardsOf}
 use Rattle.table.specs.Table.{makeTable, seatAt, isDealt, up, handCards, bankCards, tableDrawn, tableShoe, tableDiscards}
 use Rattle.table.specs.Money.{allMoney}
@@ -31,7 +31,7 @@ use Rattle.table.proofs.SeatChange.{sum-out}
 
 -- a seat at the end of the round, with its new purse
 abbrev pub cleared : (Seat → ℕ) → Seat → Seat
-cleared purse-of s = makeSeat (money (purse-of s) 0 0) emptyHands
+cleared purse-of s = clearedSeat (purse-of s)
 
 -- the table after it
 abbrev pub roundEnded : Table → ℕ → (Seat → ℕ) → Shoe → Table
@@ -39,14 +39,14 @@ roundEnded t tray purse-of shoe = makeTable (t .options) tray (map (cleared purs
 
 -- k cards more are drawn; with those that lay in hands and with the bank they are `cards`, which become discards
 pub record RoundEnd (t : Table) (tray : ℕ) (purse-of : Seat → ℕ) (shoe : Shoe) (k : ℕ) (cards : List ℕ) : Type 0 where
-  pub paid : tray + sum purse-of (t .seats) ≡ allMoney t
+  pub paid : tray + sumOf purse-of (t .seats) ≡ allMoney t
   pub nothing-stays : (s : Seat) → HoldsNothing s → purse-of s ≡ 0
   pub same-order : shoe .order ≡ t .shoe .order
   pub more-drawn : shoe .drawn ≡ t .shoe .drawn + k
   pub enough : t .shoe .drawn + k ≤ 52 * t .options .decks
   pub more-discards : shoe .discards ≡ sets (t .shoe .discards) (t .shoe .discarded) cards
   pub more-discarded : shoe .discarded ≡ t .shoe .discarded + length cards
-  pub cards-moved : (w : ℕ → ℕ) → sum w cards ≡ sum w (handCards t ++ bankCards t) + sum w (take k (tableShoe t))
+  pub cards-moved : (w : ℕ → ℕ) → sumOf w cards ≡ sumOf w (handCards t ++ bankCards t) + sumOf w (take k (tableShoe t))
 
 -- such a seat has nothing laid, no prize and no card
 pub cleared-laid : (purse-of : Seat → ℕ) (s : Seat) → laid (cleared purse-of s) ≡ 0
@@ -54,11 +54,11 @@ unfolding laid
 cleared-laid purse-of s = refl
 
 pub cleared-prizes : (o : Options) (purse-of : Seat → ℕ) (s : Seat) → prizes o (cleared purse-of s) ≡ 0
-unfolding prizes sum
+unfolding prizes sumOf
 cleared-prizes o purse-of s = refl
 
-cleared-cards : (w : ℕ → ℕ) (purse-of : Seat → ℕ) (s : Seat) → sum w (seatCards (cleared purse-of s)) ≡ 0
-unfolding sum flat
+cleared-cards : (w : ℕ → ℕ) (purse-of : Seat → ℕ) (s : Seat) → sumOf w (seatCards (cleared purse-of s)) ≡ 0
+unfolding sumOf flat
 cleared-cards w purse-of s = refl
 
 -- the seat of a number that the table has
@@ -92,27 +92,27 @@ module _ (t : Table) (tray : ℕ) (purse-of : Seat → ℕ) (shoe : Shoe) (k : �
   }
 
   -- a number that each such seat has 0 of comes to 0
-  over-none : (f : Seat → ℕ) → ((s : Seat) → f (cleared purse-of s) ≡ 0) → sum f (map (cleared purse-of) (t .seats)) ≡ 0
+  over-none : (f : Seat → ℕ) → ((s : Seat) → f (cleared purse-of s) ≡ 0) → sumOf f (map (cleared purse-of) (t .seats)) ≡ 0
   over-none f h = sum-map f (cleared purse-of) (t .seats) ∙ sum-none (λ s. f (cleared purse-of s)) (t .seats) missingSeat (λ i l. h (seatAt t i))
 
   pub end-money : allMoney after ≡ allMoney t
   end-money = omega (arith, over-none laid (cleared-laid purse-of), sum-map purse (cleared purse-of) (t .seats), end .paid)
 
   -- whatever is summed over cards: those that are out, and the drawn part of the order
-  out-cards : (w : ℕ → ℕ) → sum w (outCards after) ≡ sum w (outCards t) + sum w (take k (tableShoe t))
-  unfolding sum
+  out-cards : (w : ℕ → ℕ) → sumOf w (outCards after) ≡ sumOf w (outCards t) + sumOf w (take k (tableShoe t))
+  unfolding sumOf
   out-cards w =
       omega (
         arith,
         sum-out after w,
-        over-none (λ s. sum w (seatCards s)) (cleared-cards w purse-of),
-        ap (sum w) discards-after,
+        over-none (λ s. sumOf w (seatCards s)) (cleared-cards w purse-of),
+        ap (sumOf w) discards-after,
         sum-append w (tableDiscards t) cards,
         sum-append w (handCards t ++ bankCards t) (tableDiscards t),
         end .cards-moved w,
       )
 
-  drawn-cards : (w : ℕ → ℕ) → sum w (tableDrawn after) ≡ sum w (tableDrawn t) + sum w (take k (tableShoe t))
+  drawn-cards : (w : ℕ → ℕ) → sumOf w (tableDrawn after) ≡ sumOf w (tableDrawn t) + sumOf w (take k (tableShoe t))
   drawn-cards w = rw (end .more-drawn, end .same-order, take-add, sum-append)
 
   end-seat : (i : ℕ) → SoundSeat (t .options) (isDealt t) (isAce (up t)) i (seatAt t i) → SoundSeat (t .options) false (isAce (up after)) i (cleared purse-of (seatAt t i))

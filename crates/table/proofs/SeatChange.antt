@@ -6,7 +6,7 @@ use native.Mathlib.Omega.{arith}
 use lib.Dec.{ltb}
 use lib.ListN.{length, take, set, length-set, length-take, length-drop}
 use lib.Seq.{take-add}
-use Rattle.lists.specs.Sum.{sum, isIt}
+use Rattle.lists.specs.Sum.{sumOf, isIt}
 use Rattle.lists.proofs.Sums.{sum-append, sum-flat, sum-set, sum-ones}
 use Rattle.lists.proofs.Tests.{any-set}
 use Rattle.lists.proofs.Places.{holds-set}
@@ -24,7 +24,7 @@ use Rattle.table.specs.Shape.{Shaped, ShapedSeat}
 use Rattle.table.specs.Aids.Sound.{Sound, SoundSeat}
 
 -- whatever is summed over the cards that are out: the seats' parts, the bank's and the discards'
-pub sum-out : (t : Table) (w : ℕ → ℕ) → sum w (outCards t) ≡ sum (λ x. sum w (seatCards x)) (t .seats) + sum w (bankCards t) + sum w (tableDiscards t)
+pub sum-out : (t : Table) (w : ℕ → ℕ) → sumOf w (outCards t) ≡ sumOf (λ x. sumOf w (seatCards x)) (t .seats) + sumOf w (bankCards t) + sumOf w (tableDiscards t)
 sum-out t w = rw (sum-append, sum-append, sum-flat)
 
 -- the table after such a call
@@ -45,7 +45,7 @@ pub record SeatChange (t : Table) (j tray : ℕ) (s : Seat) (shoe : Shoe) (k cam
   pub same-discarded : shoe .discarded ≡ t .shoe .discarded
   pub more-drawn : shoe .drawn ≡ t .shoe .drawn + k
   pub enough : t .shoe .drawn + k ≤ 52 * t .options .decks
-  pub cards-moved : (w : ℕ → ℕ) → sum w (seatCards s) ≡ sum w (seatCards (seatAt t j)) + sum w (take k (tableShoe t))
+  pub cards-moved : (w : ℕ → ℕ) → sumOf w (seatCards s) ≡ sumOf w (seatCards (seatAt t j)) + sumOf w (take k (tableShoe t))
 
 module _ (t : Table) (j tray : ℕ) (s : Seat) (shoe : Shoe) (k came went : ℕ) (shaped : Shaped t) (sound : Sound t) (ch : SeatChange t j tray s shoe k came went) where
   -- place j is one of the nine
@@ -53,7 +53,7 @@ module _ (t : Table) (j tray : ℕ) (s : Seat) (shoe : Shoe) (k came went : ℕ)
   here = omega (arith, in-range-facts (t .options) (sound .options) .seats-most)
 
   -- a sum over the seats changes by the seat's part
-  over-seats : (f : Seat → ℕ) → sum f (set (t .seats) j s) + f (seatAt t j) ≡ sum f (t .seats) + f s
+  over-seats : (f : Seat → ℕ) → sumOf f (set (t .seats) j s) + f (seatAt t j) ≡ sumOf f (t .seats) + f s
   over-seats f = sum-set f (t .seats) j s missingSeat here
 
   pub change-shaped : Shaped (changed t j tray s shoe)
@@ -69,12 +69,12 @@ module _ (t : Table) (j tray : ℕ) (s : Seat) (shoe : Shoe) (k came went : ℕ)
   change-money = omega (arith, over-seats laid, over-seats purse)
 
   -- whatever is summed over cards, what is drawn now comes to the cards that are out and to the drawn part of the order
-  out-cards : (w : ℕ → ℕ) → sum w (outCards (changed t j tray s shoe)) ≡ sum w (outCards t) + sum w (take k (tableShoe t))
+  out-cards : (w : ℕ → ℕ) → sumOf w (outCards (changed t j tray s shoe)) ≡ sumOf w (outCards t) + sumOf w (take k (tableShoe t))
   out-cards w =
-      let discards : sum w (discardsOf shoe) ≡ sum w (tableDiscards t) = rw (ch .same-discarded, ch .same-discards) in
-      omega (arith, sum-out (changed t j tray s shoe) w, sum-out t w, over-seats (λ x. sum w (seatCards x)), ch .cards-moved w)
+      let discards : sumOf w (discardsOf shoe) ≡ sumOf w (tableDiscards t) = rw (ch .same-discarded, ch .same-discards) in
+      omega (arith, sum-out (changed t j tray s shoe) w, sum-out t w, over-seats (λ x. sumOf w (seatCards x)), ch .cards-moved w)
 
-  drawn-cards : (w : ℕ → ℕ) → sum w (tableDrawn (changed t j tray s shoe)) ≡ sum w (tableDrawn t) + sum w (take k (tableShoe t))
+  drawn-cards : (w : ℕ → ℕ) → sumOf w (tableDrawn (changed t j tray s shoe)) ≡ sumOf w (tableDrawn t) + sumOf w (take k (tableShoe t))
   drawn-cards w = rw (ch .more-drawn, ch .same-order, take-add, sum-append)
 
   -- the shoe has the k cards

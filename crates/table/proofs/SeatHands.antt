@@ -7,7 +7,7 @@ use native.Mathlib.Omega.{arith}
 use lib.ListN.{length, take, getD, set, length-set}
 use lib.Seq.{take-set-lt, take-take, length-take-le, getD-take}
 use borrow.Author.Tests.{ne-eqb}
-use Rattle.lists.specs.Sum.{sum}
+use Rattle.lists.specs.Sum.{sumOf}
 use Rattle.lists.proofs.Sums.{sum-set, sum-flat}
 use Rattle.lists.proofs.Places.{map-set, holds-set}
 use Rattle.lists.proofs.Inserts.{two-for, take-two-for, length-two-for, sum-two-for, holds-two-for, map-two-for}
@@ -22,11 +22,11 @@ use Rattle.table.specs.Shape.{ShapedSeat}
 use Rattle.table.specs.Aids.Sound.{SoundHand}
 
 -- the sums of a seat over its hands, once it has one
-pub laid-playing : (s : Seat) → ShapedSeat s → 0 < s .hands .many → laid s ≡ sum (wager (stake s)) (hands s) + insurance s
+pub laid-playing : (s : Seat) → ShapedSeat s → 0 < s .hands .many → laid s ≡ sumOf (wager (stake s)) (hands s) + insurance s
 unfolding laid
 laid-playing s shaped some = simp (ne-eqb (length (hands s)) 0 (λ none. omega (arith, many-hands (s .hands) (shaped .four-places))))
 
-pub seat-cards : (w : ℕ → ℕ) (s : Seat) → sum w (seatCards s) ≡ sum (λ h. sum w (h .cards)) (hands s)
+pub seat-cards : (w : ℕ → ℕ) (s : Seat) → sumOf w (seatCards s) ≡ sumOf (λ h. sumOf w (h .cards)) (hands s)
 seat-cards w s = sum-flat w (λ h. h .cards) (hands s)
 
 -- the seat with another hand at p, and with two hands for the one there
@@ -59,7 +59,7 @@ module _ (s : Seat) (p : ℕ) (shaped : ShapedSeat s) (few : s .hands .many ≤ 
     each-with each new q l _ =
         holds-set (λ n x. SoundHand x) (s .hands .places) p q h missingPlace (omega (arith, shaped .four-places)) new (each q l (omega (arith, shaped .four-places)))
 
-    pub sum-with : (f : Played → ℕ) → sum f (hands (with-hand s m p h)) + f (playedOf (getD (s .hands .places) p missingPlace)) ≡ sum f (hands s) + f (playedOf h)
+    pub sum-with : (f : Played → ℕ) → sumOf f (hands (with-hand s m p h)) + f (playedOf (getD (s .hands .places) p missingPlace)) ≡ sumOf f (hands s) + f (playedOf h)
     sum-with f = rw (hands-with, ← hand-is) (sum-set f (hands s) p (playedOf h) (playedOf missingPlace) (omega (arith, how-many)))
 
   module _ (m : Money) (a b : SeatHand) where
@@ -84,5 +84,5 @@ module _ (s : Seat) (p : ℕ) (shaped : ShapedSeat s) (few : s .hands .many ≤ 
         rw (getD-take 4 (two-for (s .hands .places) p a b) q missingPlace (omega arith))
         (holds-two-for SoundHand (s .hands .places) p (s .hands .many) a b missingPlace (omega (arith, shaped .four-places)) here new-a new-b (λ k m. each k m (omega (arith, shaped .four-places))) q (omega arith))
 
-    pub sum-two : s .hands .many < 4 → (f : Played → ℕ) → sum f (hands (with-two s m p a b)) + f (playedOf (getD (s .hands .places) p missingPlace)) ≡ sum f (hands s) + f (playedOf a) + f (playedOf b)
+    pub sum-two : s .hands .many < 4 → (f : Played → ℕ) → sumOf f (hands (with-two s m p a b)) + f (playedOf (getD (s .hands .places) p missingPlace)) ≡ sumOf f (hands s) + f (playedOf a) + f (playedOf b)
     sum-two room f = rw (hands-two room, ← hand-is) (sum-two-for f (hands s) p (playedOf a) (playedOf b) (playedOf missingPlace) (omega (arith, how-many)))

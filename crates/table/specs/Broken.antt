@@ -1,10 +1,11 @@
--- Number 1: broken table. docs/BROKEN.md says it in words. A table is broken unless it is sound, and each part of sound is one test.
+-- Document 01, "Who can bring about which number", 1: a broken table. docs/BROKEN.md says it in words. A table is broken unless it is sound, and each part
+-- of sound is one test. Every table value has an answer.
 use mathlib.Core.Bool.{Bool, not, _&&_, _||_}
 use Prim.Native.Nat.{ℕ, _+_, _*_}
 use lib.Dec.{ltb, leb, eqb}
 use lib.ListN.{length, take}
-use Rattle.lists.specs.Sum.{count}
-use Rattle.lists.specs.Tests.{all}
+use Rattle.lists.specs.Sum.{countOf}
+use Rattle.lists.specs.Tests.{allOf}
 use Rattle.lists.specs.Below.{allBelow}
 use Rattle.cards.specs.Card.{isAce}
 use Rattle.cards.specs.Hand.{cardsOf}
@@ -41,7 +42,7 @@ soundInsurance o dealt ace s = eqb (insurance s) 0 || (dealt && ace && isStaked 
 unfoldable pub soundHands : Options → Bool → Seat → Bool
 soundHands o dealt s =
     eqb (s .hands .many) 0 && not (dealt && isStaked s)
-    || ltb 0 (s .hands .many) && leb (s .hands .many) (o .hands) && dealt && isStaked s && all soundHand (take (s .hands .many) (s .hands .places))
+    || ltb 0 (s .hands .many) && leb (s .hands .many) (o .hands) && dealt && isStaked s && allOf soundHand (take (s .hands .many) (s .hands .places))
 
 -- A void can take a seat's prizes back: they are within its purse and what it laid.
 unfoldable pub soundPrizes : Options → Seat → Bool
@@ -60,7 +61,7 @@ soundShoe t = validOrder (t .options .decks) (tableOrder t) && leb (t .shoe .dra
 
 -- Of every byte value, hands, bank and discards hold as many cards as the drawn part of the order, and as many in all.
 unfoldable pub soundFaces : Table → Bool
-soundFaces t = allBelow (λ b. eqb (count b (outCards t)) (count b (tableDrawn t))) 256 && eqb (length (outCards t)) (t .shoe .drawn)
+soundFaces t = allBelow (λ b. eqb (countOf b (outCards t)) (countOf b (tableDrawn t))) 256 && eqb (length (outCards t)) (t .shoe .drawn)
 
 -- The bank has at most one card; in a dealt round some seat has a stake.
 unfoldable pub soundBank : Table → Bool

@@ -1,4 +1,4 @@
--- The cards on the table that have left the shoe: in hands, with the bank and among the discards.
+-- Document 01, number 1, "the cards on the table aren't the loaded faces": the cards that have left the shoe, in hands, with the bank and among the discards.
 use mathlib.Core.List.{List, _++_}
 use Prim.Native.Nat.{ℕ}
 use Rattle.table.specs.declared.Table.{Table}

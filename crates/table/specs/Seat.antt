@@ -1,10 +1,10 @@
--- A seat of the table: its hands by place, and its sums. Everything above a seat reaches money only through these.
+-- Document 01, "The seventeen calls", the guest: a seat, its money and its hands; what it has laid and won in this round.
 use mathlib.Core.Bool.{Bool, cond}
 use mathlib.Core.List.{List, []}
 use Prim.Native.Nat.{ℕ, _+_}
 use lib.Dec.{ltb, eqb}
 use lib.ListN.{length, replicate}
-use Rattle.lists.specs.Sum.{sum}
+use Rattle.lists.specs.Sum.{sumOf}
 use Rattle.lists.specs.Flat.{flat}
 use Rattle.cards.specs.Hand.{emptyHand}
 use Rattle.options.specs.declared.Options.{Options}
@@ -34,6 +34,10 @@ emptyHands = record { places = replicate 4 emptyPlace; many = 0 }
 -- A seat with no money and no hand.
 abbrev pub emptySeat : Seat
 emptySeat = makeSeat (money 0 0 0) emptyHands
+
+-- A seat at the end of a round: no stake, no insurance and no hand, and this purse.
+abbrev pub clearedSeat : ℕ → Seat
+clearedSeat purse = makeSeat (money purse 0 0) emptyHands
 
 -- What stands where a seat has no such place, or the table no such seat.
 abbrev pub missingPlace : SeatHand
@@ -70,11 +74,11 @@ seatCards s = flat (λ h. h .cards) (hands s)
 
 -- What the seat has laid in this round: its stake before the deal; after it the wagers of its hands and its insurance.
 unfoldable pub laid : Seat → ℕ
-laid s = cond (eqb (length (hands s)) 0) (stake s) (sum (wager (stake s)) (hands s) + insurance s)
+laid s = cond (eqb (length (hands s)) 0) (stake s) (sumOf (wager (stake s)) (hands s) + insurance s)
 
 -- Its prizes in this round: a prize hand totals 21 and never changes again.
 unfoldable pub prizes : Options → Seat → ℕ
-prizes o s = sum (prize o (stake s)) (hands s)
+prizes o s = sumOf (prize o (stake s)) (hands s)
 
 -- What the tray must hold for it at the deal.
 abbrev pub seatCover : Seat → ℕ

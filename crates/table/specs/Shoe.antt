@@ -1,12 +1,12 @@
--- The shoe: the loaded order, what of it is drawn and what is left, and the discards.
+-- Document 01, "The seventeen calls", load, and number 3: the shoe, its loaded order, what of it is drawn and what is left, and the discards.
 use mathlib.Core.Bool.{Bool, _&&_}
 use mathlib.Core.List.{List, _++_}
 use Prim.Native.Nat.{ℕ, _+_, _-_, _*_}
 use lib.Dec.{ltb, eqb}
 use lib.ListN.{length, take, drop, replicate}
 use lib.Seq.{sets}
-use Rattle.lists.specs.Sum.{count}
-use Rattle.lists.specs.Tests.{all}
+use Rattle.lists.specs.Sum.{countOf}
+use Rattle.lists.specs.Tests.{allOf}
 use Rattle.lists.specs.Below.{allBelow}
 use Rattle.table.specs.declared.Shoe.{Shoe}
 
@@ -16,7 +16,7 @@ makeShoe order drawn discards discarded = record { order = order; drawn = drawn;
 -- A load: an order of 52 × decks cards, each face as often as there are decks (number 3: wrong length, card or count).
 unfoldable pub validOrder : ℕ → List ℕ → Bool
 validOrder decks order =
-    eqb (length order) (52 * decks) && all (λ card. ltb card 52) order && allBelow (λ face. eqb (count face order) decks) 52
+    eqb (length order) (52 * decks) && allOf (λ card. ltb card 52) order && allBelow (λ face. eqb (countOf face order) decks) 52
 
 -- The shoe that a load makes: nothing drawn, no discards. Behind its cards the arrays hold zeros.
 abbrev pub newShoe : List ℕ → Shoe

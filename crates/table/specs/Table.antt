@@ -1,10 +1,10 @@
--- The table and its views.
+-- Document 01, "The seventeen calls": the table, its parts replaced one at a time, and its views: seats, hands, the bank's cards, the shoe.
 use mathlib.Core.Bool.{Bool}
 use mathlib.Core.List.{List, map}
 use Prim.Native.Nat.{ℕ}
-use lib.Dec.{ltb}
+use lib.Dec.{ltb, leb}
 use lib.ListN.{length, getD, set}
-use Rattle.lists.specs.Tests.{any}
+use Rattle.lists.specs.Tests.{anyOf}
 use Rattle.lists.specs.Flat.{flat}
 use Rattle.cards.specs.declared.hand.Hand.{Hand}
 use Rattle.cards.specs.Hand.{cardsOf}
@@ -13,18 +13,15 @@ use Rattle.rules.specs.SeatHand.{Played}
 use Rattle.table.specs.declared.Seat.{Seat}
 use Rattle.table.specs.declared.Shoe.{Shoe}
 use Rattle.table.specs.declared.Table.{Table}
-use Rattle.table.specs.Seat.{missingSeat, isStaked, hands, seatCards}
+use Rattle.table.specs.Seat.{withPurse, missingSeat, isStaked, hands, seatCards}
 use Rattle.table.specs.Shoe as Shoes
 
 abbrev pub makeTable : Options → ℕ → List Seat → Hand → Shoe → Table
 makeTable options tray seats bank shoe = record { options = options; tray = tray; seats = seats; bank = bank; shoe = shoe }
 
--- The table with another tray, other seats, another seat or another shoe.
+-- The table with another tray, another seat or another shoe.
 abbrev pub withTray : Table → ℕ → Table
 withTray t tray = makeTable (t .options) tray (t .seats) (t .bank) (t .shoe)
-
-abbrev pub withSeats : Table → List Seat → Table
-withSeats t seats = makeTable (t .options) (t .tray) seats (t .bank) (t .shoe)
 
 abbrev pub withSeat : Table → ℕ → Seat → Table
 withSeat t i s = makeTable (t .options) (t .tray) (set (t .seats) i s) (t .bank) (t .shoe)
@@ -35,6 +32,14 @@ withShoe t shoe = makeTable (t .options) (t .tray) (t .seats) (t .bank) shoe
 -- The seat of that number; a seat that the table does not have holds nothing.
 abbrev pub seatAt : Table → ℕ → Seat
 seatAt t i = getD (t .seats) i missingSeat
+
+-- 8: no such seat. The option says how many there are.
+abbrev pub noSuchSeat : Table → ℕ → Bool
+noSuchSeat t j = leb (t .options .seats) j
+
+-- The table with another purse for that seat.
+abbrev pub withPurseAt : Table → ℕ → ℕ → Table
+withPurseAt t j p = withSeat t j (withPurse (seatAt t j) p)
 
 -- The hands of each seat, by seat and place.
 abbrev pub seatsHands : Table → List (List Played)
@@ -56,7 +61,7 @@ up t = getD (bankCards t) 0 0
 
 -- Some seat has a stake.
 abbrev pub someStaked : Table → Bool
-someStaked t = any isStaked (t .seats)
+someStaked t = anyOf isStaked (t .seats)
 
 -- The loaded order, its cards that are drawn, those that are left, and their number; the discards.
 abbrev pub tableOrder : Table → List ℕ

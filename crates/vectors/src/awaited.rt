@@ -10,13 +10,13 @@ use rules::turn::seat_waits;
 use rules::turn::waiting_place;
 use rules::waits::waits;
 
-pub fn of_hand(rule: u8, words: &[u8], o: Options, up: u8, many: usize, h: SeatHand) {
+pub(crate) fn of_hand(rule: u8, words: &[u8], o: Options, up: u8, many: usize, h: SeatHand) {
     if rule == b'w' {
         answer(words, waits(o, up, many, h));
     }
 }
 
-pub fn of_seat(rule: u8, words: &[u8], o: Options, up: u8, s: SeatHands) {
+pub(crate) fn of_seat(rule: u8, words: &[u8], o: Options, up: u8, s: SeatHands) {
     match rule {
         b'n' => number(words, waiting_place(o, up, s) as u64),
         b'a' => answer(words, seat_waits(o, up, s)),
@@ -25,7 +25,7 @@ pub fn of_seat(rule: u8, words: &[u8], o: Options, up: u8, s: SeatHands) {
     }
 }
 
-pub fn of_bank(rule: u8, words: &[u8], bank: Hand) {
+pub(crate) fn of_bank(rule: u8, words: &[u8], bank: Hand) {
     if rule == b'b' {
         answer(words, must_draw(bank));
     }

@@ -8,7 +8,7 @@ use script::card;
 use script::digit;
 
 // The hand of the cards that stand two letters each; a pair that begins with a space is none.
-pub fn hand_of(cards: &[u8]) -> Hand {
+pub(crate) fn hand_of(cards: &[u8]) -> Hand {
     let mut h = empty_hand();
     let mut i = 0;
     while i + 1 < cards.len() {
@@ -20,7 +20,7 @@ pub fn hand_of(cards: &[u8]) -> Hand {
     h
 }
 
-pub fn seat_hand(cards: &[u8], origin: u8, ended: u8) -> SeatHand {
+pub(crate) fn seat_hand(cards: &[u8], origin: u8, ended: u8) -> SeatHand {
     SeatHand {
         hand: hand_of(cards),
         origin: digit(origin),
@@ -35,7 +35,7 @@ fn on(letter: u8, off: u8) -> u8 {
 
 // Six seats, one deck, four hands; aces split again (a: not), any double (d: only on 11), limited loss (l: not), five (f: not)
 // and prize (p: not).
-pub fn house(letter: u8) -> Options {
+pub(crate) fn house(letter: u8) -> Options {
     let double: u8 = if letter == b'd' { 2 } else { 1 };
     Options {
         seats: 6,

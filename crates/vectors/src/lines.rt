@@ -2,7 +2,7 @@
 use libc::STDOUT_FILENO;
 use payment::pay::Pay;
 
-pub fn answer(words: &[u8], yes: bool) {
+pub(crate) fn answer(words: &[u8], yes: bool) {
     io::write_all(STDOUT_FILENO, words);
     if yes {
         io::write_all(STDOUT_FILENO, b": yes\n");
@@ -11,7 +11,7 @@ pub fn answer(words: &[u8], yes: bool) {
     }
 }
 
-pub fn number(words: &[u8], n: u64) {
+pub(crate) fn number(words: &[u8], n: u64) {
     io::write_all(STDOUT_FILENO, words);
     io::write_all(STDOUT_FILENO, b": ");
     io::print_decimal(STDOUT_FILENO, n);
@@ -19,7 +19,7 @@ pub fn number(words: &[u8], n: u64) {
 }
 
 // What lay there, and what goes back.
-pub fn pay(words: &[u8], p: Pay) {
+pub(crate) fn pay(words: &[u8], p: Pay) {
     io::write_all(STDOUT_FILENO, words);
     io::write_all(STDOUT_FILENO, b": laid ");
     io::print_decimal(STDOUT_FILENO, p.laid);

@@ -9,7 +9,7 @@ use payment::insurance::insurance_pay;
 use payment::prize::prize;
 use rules::seat_hand::SeatHand;
 
-pub fn of_hand(rule: u8, words: &[u8], o: Options, bank: Score, h: SeatHand) {
+pub(crate) fn of_hand(rule: u8, words: &[u8], o: Options, bank: Score, h: SeatHand) {
     match rule {
         b'y' => pay(words, hand_pay(o, bank, 20, h)),
         b'i' => pay(words, insurance_pay(bank, 10)),

@@ -9,7 +9,7 @@ use rules::permits::permits_split;
 use rules::permits::permits_stand;
 use rules::seat_hand::SeatHand;
 
-pub fn permits(rule: u8, o: Options, up: u8, many: usize, h: SeatHand) -> bool {
+pub(crate) fn permits(rule: u8, o: Options, up: u8, many: usize, h: SeatHand) -> bool {
     match rule {
         b'S' => permits_stand(o, up, many, h),
         b'D' => permits_draw(o, up, many, h),

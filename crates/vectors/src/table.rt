@@ -82,7 +82,7 @@ fn example(row: &[u8])
 }
 
 // Each line long enough to be an example.
-pub fn each(text: &[u8]) {
+pub(crate) fn each(text: &[u8]) {
     let mut at = 0;
     while at < text.len() {
         let end = end_of(text, at);

@@ -1,4 +1,5 @@
--- A table agrees with a history: its views are the history's values, for every seat number without a bound.
+-- A table agrees with a history (document 01, "The history"): its views are the history's values, for every seat number without a bound. The theorem
+-- over lists of calls carries this from call to call.
 use mathlib.Core.Path.{_≡_}
 use mathlib.Core.List.{List}
 use Prim.Native.Nat.{ℕ, _+_}

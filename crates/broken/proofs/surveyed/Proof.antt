@@ -8,7 +8,7 @@ use borrow.Author.Needs.{needs}
 use borrow.Author.Tests.{not-true, not-false}
 use lib.ListN.{length, take, getD, length-map}
 use lib.Seq.{take-all}
-use Rattle.lists.specs.Sum.{sum}
+use Rattle.lists.specs.Sum.{sumOf}
 use Rattle.lists.specs.Below.{allBelow}
 use Rattle.lists.proofs.Below.{all-below, below-passes}
 use Rattle.cards.specs.Card.{isAce}
@@ -58,7 +58,7 @@ is-ace-requires : tie.Need-is-ace-requires Inv-loop μ-loop
 is-ace-requires c κs = search needs
 
 loop-holds : tie.Need-loop-holds Inv-loop μ-loop
-unfolding allBelow sum
+unfolding allBelow sumOf
 loop-holds c = search needs
 
 mul-s : tie.Need-mul-s Inv-loop μ-loop

@@ -4,16 +4,12 @@ use mathlib.Core.List.{List, _++_}
 use Prim.Native.Nat.{ℕ, _+_, _*_, _≤_, _<_, min}
 use native.Mathlib.Nat.{mul-add, mul-one}
 use native.Mathlib.Omega.{arith}
-use lib.Dec.{eqb}
 use lib.ListN.{length, getD, take, length-append, length-take}
-use Rattle.lists.specs.Sum.{count}
-use Rattle.lists.specs.Below.{allBelow}
 use Rattle.lists.specs.Flat.{flat}
-use Rattle.lists.proofs.Below.{all-below-same}
 use Rattle.lists.proofs.Flats.{flat-next}
 use Rattle.lists.proofs.Takes.{take-clamped}
-use Rattle.card_count.specs.Aids.Counters.{noCounts, countedAll, Room}
-use Rattle.card_count.proofs.counters.Tallies.{tally-append, tally-zeros, room-after}
+use Rattle.card_count.specs.Aids.Counters.{countedAll, Room}
+use Rattle.card_count.proofs.counters.Counts.{counted-append, room-after}
 use Rattle.card_count.specs.Aids.Counted.{Counted}
 
 -- room for fewer cards, and what counted cards leave of it
@@ -27,7 +23,7 @@ counted-room {a} {b} {xs} n m room e h = rw (e .counters) (room-after a xs n m r
 pub counted-join : {a b c xs ys : List ℕ} {n m k l : ℕ} → Counted a b xs n m → Counted b c ys k l → Counted a c (xs ++ ys) (n + k) (m + l)
 counted-join {a} {b} {c} {xs} {ys} e f =
     record {
-      counters = f .counters ∙ ap (λ (of : List ℕ). countedAll of ys) (e .counters) ∙ sym (tally-append a xs ys);
+      counters = f .counters ∙ ap (λ (of : List ℕ). countedAll of ys) (e .counters) ∙ sym (counted-append a xs ys);
       number = omega (arith, length-append xs ys);
       few = omega arith;
     }

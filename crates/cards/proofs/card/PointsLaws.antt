@@ -8,7 +8,7 @@ use native.Mathlib.Omega.{arith}
 use lib.Dec.{leb, eqb}
 use lib.ListN.{getD}
 use borrow.Author.Tests.{leb-true, eqb-false}
-use Rattle.lists.specs.Tests.{all}
+use Rattle.lists.specs.Tests.{allOf}
 use Rattle.lists.proofs.Tests.{all-at}
 use Rattle.cards.specs.Card.{rankOf, isAce}
 use Rattle.cards.specs.Points.{pointsOf, pointsTable}
@@ -17,18 +17,18 @@ rank-below : (card : ℕ) → rankOf card < 13
 rank-below card = omega arith
 
 pub points-most : (card : ℕ) → pointsOf card ≤ 10
-unfolding pointsOf all
+unfolding pointsOf allOf
 points-most card = leb-true _ _ (all-at (λ p. leb p 10) pointsTable (rankOf card) 0 refl (rank-below card))
 
 pub points-least : (card : ℕ) → 1 ≤ pointsOf card
-unfolding pointsOf all
+unfolding pointsOf allOf
 points-least card = leb-true _ _ (all-at (λ p. leb 1 p) pointsTable (rankOf card) 0 refl (rank-below card))
 
 ranks-above-ace : List ℕ
 ranks-above-ace = 2 ∷ 3 ∷ 4 ∷ 5 ∷ 6 ∷ 7 ∷ 8 ∷ 9 ∷ 10 ∷ 10 ∷ 10 ∷ 10 ∷ []
 
 no-ace : (rank : ℕ) → rank < 13 → eqb rank 0 ≡ false → 2 ≤ getD pointsTable rank 0
-unfolding all ranks-above-ace
+unfolding allOf ranks-above-ace
 no-ace zero h e = absurd (eqb-false 0 0 e refl)
 no-ace (suc rank) h e = leb-true _ _ (all-at (λ p. leb 2 p) ranks-above-ace rank 0 refl (le-of-suc-le-suc h))
 

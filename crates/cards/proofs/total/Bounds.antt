@@ -21,9 +21,6 @@ low-sum-least cards = omega (arith, sum-least pointsOf 1 points-least cards)
 pub low-sum-most : (cards : List ℕ) → lowSum cards ≤ 10 * length cards
 low-sum-most cards = sum-most pointsOf 10 points-most cards
 
-pub low-sum-200 : (cards : List ℕ) → length cards ≤ 20 → lowSum cards ≤ 200
-low-sum-200 cards h = omega (arith, low-sum-most cards)
-
 pub low-sum-no-ace : (cards : List ℕ) → hasAce cards ≡ false → 2 * length cards ≤ lowSum cards
 low-sum-no-ace cards none = sum-least-none pointsOf 2 isAce points-no-ace cards none
 

@@ -11,7 +11,7 @@ use Rattle.table.specs.declared.Table.{Table}
 use Rattle.table.specs.Shoe.{discard}
 use Rattle.table.specs.Table.{handCards, bankCards, tableShoe}
 use Rattle.table.proofs.Facts.{room-discards, decks-416}
-use Rattle.shoe.proofs.discards.Discards.{discard-more, room-more}
+use Rattle.close.proofs.discards.Laws.{discard-more, room-more}
 use Rattle.close_spec.specs.BankDraw.{bankBurn, burntAtClose, bankAtClose, closeTakes}
 use Rattle.close_spec.proofs.Taken.{one-bank, takes-all, enough}
 use Rattle.close.specs.Aids.Closes.{Closes}

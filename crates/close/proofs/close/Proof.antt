@@ -3,7 +3,7 @@ use native.Mathlib.Omega.{arith}
 use borrow.Author.Needs.{needs}
 use Rattle.table.proofs.Facts.{decks-416}
 use Rattle.answer.specs.Reply.{viewOf}
-use Rattle.answer.proofs.Laws.{refused-step, accepted-step}
+use Rattle.answer.proofs.reply.Laws.{refused-step, accepted-step}
 use Rattle.close_spec.specs.Close.{closeConditions, closeEffect, closeShown}
 use Rattle.close.proofs.Numbers.{early-refused, last-refused, all-accepted, closes}
 use Rattle.close.proofs.close.Statement.{statement}
@@ -52,7 +52,6 @@ settled-requires c κs =
     let past = drawn .before in
     let early = past .before in
     closes (early .before .args .t) (early .early-number .result) (early .early-number .ensures .0) (past .if1 .left) (drawn .bank-at-close .result) (drawn .bank-at-close .ensures) (asked .must-draw .result) (asked .must-draw .ensures) (c .if2 .left)
-    (early .early-number .ensures .1 (past .if1 .left))
 
 returns-3 : tie.Need-returns-3
 returns-3 c =

@@ -13,8 +13,8 @@ use Rattle.close.proofs.closed.Tie as tie
 table-sums-requires : tie.Need-table-sums-requires
 table-sums-requires c κs = search needs
 
-paid-seats-requires : tie.Need-paid-seats-requires
-paid-seats-requires c κs = c .before .pre .0 .sound
+ended-seats-requires : tie.Need-ended-seats-requires
+ended-seats-requires c κs = c .before .pre .0 .sound
 
 add-next : tie.Need-add-next
 add-next c =
@@ -51,16 +51,16 @@ returns c =
     let summed = paid .before in
     let start = summed .before in
     let t = start .args .t in
-    close-is t (paid .paid-seats .result) (start .args .score) (summed .table-sums .result .laid) (back .seats-back .result) (cleared .empty-hand .result) (c .closed-shoe .result)
+    close-is t (paid .ended-seats .result) (start .args .score) (summed .table-sums .result .laid) (back .seats-back .result) (cleared .empty-hand .result) (c .closed-shoe .result)
     (scored t (start .args .bank) (start .args .score) (start .pre .0 .cards) (start .pre .1))
-    (paid .paid-seats .ensures) (ap (λ (m : Sums). m .laid) (summed .table-sums .ensures)) (back .seats-back .ensures) (cleared .empty-hand .ensures) (c .closed-shoe .ensures)
+    (paid .ended-seats .ensures) (ap (λ (m : Sums). m .laid) (summed .table-sums .ensures)) (back .seats-back .ensures) (cleared .empty-hand .ensures) (c .closed-shoe .ensures)
 
 pub closed-spec : {M : Type 1} → statement M
 closed-spec =
     tie.close
     (tie.spec
     table-sums-requires
-    paid-seats-requires
+    ended-seats-requires
     add-next
     seats-back-requires
     sub-next

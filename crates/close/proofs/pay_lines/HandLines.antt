@@ -14,10 +14,11 @@ use Rattle.payment.specs.Pay.{net}
 use Rattle.payment.specs.HandPay.{handPay}
 use Rattle.table.specs.Seat.{missingPlace}
 use Rattle.close_spec.specs.PayLines.{line, handKind, handLines}
-use Rattle.close_spec.proofs.Lines.{hand-lines-next}
-use Rattle.answer.specs.declared.PayLines.{PayLines}
-use Rattle.answer.specs.Settlement.{withLine, withLines}
-use Rattle.answer.proofs.Lines.{lines-more, line-one}
+use Rattle.close_spec.proofs.PayLines.{hand-lines-next}
+use Rattle.answer.specs.declared.settlement.PayLines.{PayLines}
+use Rattle.answer.specs.Settlement.{withLine}
+use Rattle.answer.specs.Aids.WithLines.{withLines}
+use Rattle.answer.proofs.settlement.Lines.{lines-more, line-one}
 
 module _ (o : Options) (bank : Score) (S seat : ℕ) (s : SeatHands) (full : length (s .places) ≡ 4) (i : ℕ) (h : i < min (s .many) 4) where
   pub hand-line : (l next r : PayLines) (z : ℤ) → next ≡ withLines l (handLines o bank S seat 0 (take i (handsOf s))) → next .count < 45

@@ -1,4 +1,4 @@
--- What an accepted close knows of its table and of the bank's hand once it has drawn.
+-- What an accepted close knows of its table and of the bank's hand once it has drawn: its parts ask for this as one record.
 use mathlib.Core.Path.{_≡_}
 use mathlib.Core.Bool.{true, false}
 use Rattle.cards.specs.declared.hand.Hand.{Hand}

@@ -6,7 +6,7 @@ use native.Mathlib.Omega.{arith}
 use lib.ListN.{length, getD}
 use Rattle.rules.specs.declared.seat_hand.SeatHand.{SeatHand}
 use Rattle.table.specs.Seat.{missingPlace}
-use Rattle.decision_spec.specs.Split.{splitPlaces}
+use Rattle.decisions_spec.specs.Split.{splitPlaces}
 
 abbrev pub four : List SeatHand → List SeatHand
 four xs = getD xs 0 missingPlace ∷ getD xs 1 missingPlace ∷ getD xs 2 missingPlace ∷ getD xs 3 missingPlace ∷ []

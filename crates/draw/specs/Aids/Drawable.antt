@@ -1,4 +1,4 @@
--- What an accepted draw or double gives (document 01, draw and double): the seat's turn, `more` in its purse, a prize in the tray, a card in the shoe.
+-- What an accepted draw or double gives its effect: the seat's turn has come, its purse has `more`, the tray a prize, and the shoe a card.
 use Prim.Native.Nat.{ℕ, _+_, _*_, _≤_}
 use Rattle.table.specs.declared.Table.{Table}
 use Rattle.table.specs.Seat.{purse, stake}

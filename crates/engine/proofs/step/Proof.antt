@@ -11,9 +11,9 @@ use Rattle.call.specs.Answer.{emptyShown}
 use Rattle.table.specs.declared.Table.{Table}
 use Rattle.answer.specs.declared.outcome.Outcome.{Outcome}
 use Rattle.answer.specs.Outcome.{outcome}
-use Rattle.answer.specs.declared.Reply.{Reply}
+use Rattle.answer.specs.declared.reply.Reply.{Reply}
 use Rattle.answer.specs.Reply.{replyBy, viewOf, plainReply}
-use Rattle.answer.proofs.Laws.{plain}
+use Rattle.answer.proofs.reply.Laws.{plain}
 use Rattle.engine.specs.Step.{step}
 use Rattle.engine.proofs.step.Statement.{statement}
 use Rattle.engine.proofs.step.Tie as tie

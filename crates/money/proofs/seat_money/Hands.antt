@@ -7,7 +7,7 @@ use native.Mathlib.Omega.{arith}
 use lib.Dec.{eqb}
 use lib.ListN.{length, take, getD, length-map}
 use lib.Seq.{take-all}
-use Rattle.lists.specs.Sum.{sum}
+use Rattle.lists.specs.Sum.{sumOf}
 use Rattle.lists.proofs.Picks.{cond-most}
 use Rattle.lists.proofs.Sums.{sum-take, sum-most}
 use Rattle.lists.proofs.Takes.{count-taken}
@@ -22,16 +22,16 @@ use Rattle.table.specs.Seat.{stake, insurance, hands, laid, prizes}
 
 module _ (f : Played → ℕ) (s : SeatHands) (full : length (s .places) ≡ 4) where
   -- one hand more
-  pub next-hand : (i : ℕ) → i < min (s .many) 4 → sum f (take (i + 1) (handsOf s)) ≡ sum f (take i (handsOf s)) + f (playedOf (getD (s .places) i none))
+  pub next-hand : (i : ℕ) → i < min (s .many) 4 → sumOf f (take (i + 1) (handsOf s)) ≡ sumOf f (take i (handsOf s)) + f (playedOf (getD (s .places) i none))
   next-hand i h =
       let within : i < length (handsOf s) = omega (arith, many-hands s full) in
       rw (add-one, sum-take f (handsOf s) i (playedOf none), hand-at s i none (omega arith))
 
   -- all of them
-  pub every-hand : (n : ℕ) → min (s .many) 4 ≤ n → sum f (take n (handsOf s)) ≡ sum f (handsOf s)
-  every-hand n h = ap (sum f) (take-all n (handsOf s) (omega (arith, many-hands s full)))
+  pub every-hand : (n : ℕ) → min (s .many) 4 ≤ n → sumOf f (take n (handsOf s)) ≡ sumOf f (handsOf s)
+  every-hand n h = ap (sumOf f) (take-all n (handsOf s) (omega (arith, many-hands s full)))
 
-  pub hands-most : (k : ℕ) → ((h : Played) → f h ≤ k) → sum f (handsOf s) ≤ 4 * k
+  pub hands-most : (k : ℕ) → ((h : Played) → f h ≤ k) → sumOf f (handsOf s) ≤ 4 * k
   hands-most k most =
       let few : length (handsOf s) ≤ 4 = omega (arith, many-hands s full) in
       omega (arith, mul-le-mul-left k few, sum-most f k most (handsOf s))

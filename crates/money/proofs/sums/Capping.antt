@@ -6,7 +6,7 @@ use Prim.Native.Nat.{ℕ, _+_, _≤_}
 use native.Mathlib.Omega.{arith}
 use lib.Dec.{ltb}
 use borrow.Author.Tests.{lt-ltb, le-ltb}
-use Rattle.lists.specs.Sum.{sum}
+use Rattle.lists.specs.Sum.{sumOf}
 use Rattle.lists.proofs.Sums.{sum-cut-most, sum-cut-least, any-sum}
 use Rattle.lists.proofs.Tests.{ltb-same}
 use Rattle.table.specs.declared.Seat.{Seat}
@@ -19,14 +19,14 @@ use Rattle.money.specs.Sums.{capped, tableSums}
 
 module _ (seats : List Seat) where
   -- past the limit with the cut purses exactly if past it with the purses
-  pub limit-capped : (a n : ℕ) → ltb mostMoney (a + sum (λ s. capped (purse s)) seats + n) ≡ ltb mostMoney (a + sum purse seats + n)
+  pub limit-capped : (a n : ℕ) → ltb mostMoney (a + sumOf (λ s. capped (purse s)) seats + n) ≡ ltb mostMoney (a + sumOf purse seats + n)
   limit-capped a n =
-      ltb-same mostMoney (a + sum (λ s. capped (purse s)) seats + n) mostMoney (a + sum purse seats + n)
+      ltb-same mostMoney (a + sumOf (λ s. capped (purse s)) seats + n) mostMoney (a + sumOf purse seats + n)
       (λ h. omega (arith, sum-cut-most purse (mostMoney + 1) seats))
       (λ h. omega (arith, sum-cut-least purse (mostMoney + 1) seats))
 
   -- within the limit the cut purses are the purses
-  pub within-capped : sum purse seats ≤ mostMoney → sum (λ s. capped (purse s)) seats ≡ sum purse seats
+  pub within-capped : sumOf purse seats ≤ mostMoney → sumOf (λ s. capped (purse s)) seats ≡ sumOf purse seats
   within-capped h = omega (arith, sum-cut-most purse (mostMoney + 1) seats, sum-cut-least purse (mostMoney + 1) seats)
 
 module _ (t : Table) (m : Sums) (sums : m ≡ tableSums t) where

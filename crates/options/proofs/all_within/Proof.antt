@@ -8,20 +8,20 @@ use native.Mathlib.Numerals.{add-one}
 use borrow.Author.Tests.{not-true, not-false}
 use lib.Seq.{take-all}
 use lib.ListN.{length, getD, take}
-use Rattle.lists.specs.Tests.{all}
+use Rattle.lists.specs.Tests.{allOf}
 use Rattle.lists.proofs.Tests.{all-take, all-not-at}
 use Rattle.options.specs.Ranges.{range, within}
 use Rattle.options.proofs.all_within.Statement.{statement}
 use Rattle.options.proofs.all_within.Tie as tie
 
 abbrev Inv-loop : tie.InvT-loop
-Inv-loop rs i₀ i = (i ≤ 14) × (all within (take i rs) ≡ true)
+Inv-loop rs i₀ i = (i ≤ 14) × (allOf within (take i rs) ≡ true)
 
 abbrev μ-loop : tie.MeasureT-loop
 μ-loop rs i₀ i = 14 - i
 
 loop-holds : tie.Need-loop-holds Inv-loop μ-loop
-unfolding all
+unfolding allOf
 loop-holds c = search needs
 
 mul-r : tie.Need-mul-r Inv-loop μ-loop
@@ -61,7 +61,7 @@ returns-2 : tie.Need-returns-2 Inv-loop μ-loop
 returns-2 c =
     let rs = c .before .before .args .t1 in
     let full : length rs ≡ 14 = search needs in
-    sym (c .before .loop .inv .1) ∙ ap (all within) (take-all (c .before .loop .i) rs (omega arith))
+    sym (c .before .loop .inv .1) ∙ ap (allOf within) (take-all (c .before .loop .i) rs (omega arith))
 
 pub all-within-spec : {M : Type 1} → statement M
 all-within-spec =

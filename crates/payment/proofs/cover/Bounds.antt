@@ -8,7 +8,7 @@ use native.Mathlib.Omega.{arith}
 use lib.Dec.{ltb, eqb}
 use lib.ListN.{length}
 use Rattle.cards.specs.Total.{total, isBust}
-use Rattle.lists.specs.Sum.{sum}
+use Rattle.lists.specs.Sum.{sumOf}
 use Rattle.lists.proofs.Picks.{cond-most}
 use Rattle.lists.proofs.Sums.{sum-above}
 use Rattle.options.specs.declared.Options.{Options}
@@ -56,26 +56,22 @@ module _ (o : Options) (bank : Score) (S : ℕ) where
   pub gain-most : (h : Played) → handBack o bank S (wager S h) h ≤ wager S h + 2 * S
   gain-most h = back-most o bank S (wager S h) h (2 * S) (omega arith) (bank-most o bank S (wager S h) h (wager-bounds S h .1))
 
-  -- and loses at most its wager
-  pub loss-most : (h : Played) → handPay o bank S h .laid ≤ handPay o bank S h .back + wager S h
-  loss-most h = omega arith
-
   -- against a bank natural it gains at most the stake
   pub gain-against-natural : (h : Played) → bank .natural ≡ true → handBack o bank S (wager S h) h ≤ wager S h + S
   gain-against-natural h e = back-most o bank S (wager S h) h S (le-refl S) (omega (arith, bank-natural-most o bank S (wager S h) h e))
 
-  seat-most : (hands : List Played) (k : ℕ) → length hands ≤ 4 → ((h : Played) → handBack o bank S (wager S h) h ≤ wager S h + k) → sum (λ h. handPay o bank S h .back) hands ≤ sum (λ h. handPay o bank S h .laid) hands + 4 * k
+  seat-most : (hands : List Played) (k : ℕ) → length hands ≤ 4 → ((h : Played) → handBack o bank S (wager S h) h ≤ wager S h + k) → sumOf (λ h. handPay o bank S h .back) hands ≤ sumOf (λ h. handPay o bank S h .laid) hands + 4 * k
   seat-most hands k few most = omega (arith, mul-le-mul-left k few, sum-above (λ h. handPay o bank S h .back) (λ h. handPay o bank S h .laid) k most hands)
 
   -- an insurance is paid on a bank natural alone, where no hand gains more than the stake
-  pub seat-gain : (hands : List Played) (I : ℕ) → length hands ≤ 4 → I ≤ S → sum (λ h. handPay o bank S h .back) hands + insurancePay bank I .back ≤ sum (λ h. handPay o bank S h .laid) hands + I + 8 * S
+  pub seat-gain : (hands : List Played) (I : ℕ) → length hands ≤ 4 → I ≤ S → sumOf (λ h. handPay o bank S h .back) hands + insurancePay bank I .back ≤ sumOf (λ h. handPay o bank S h .laid) hands + I + 8 * S
   unfolding insurancePay
   seat-gain hands I few most = go (bank .natural) refl
     where
-      go : (b : Bool) → bank .natural ≡ b → sum (λ h. handPay o bank S h .back) hands + insurancePay bank I .back ≤ sum (λ h. handPay o bank S h .laid) hands + I + 8 * S
+      go : (b : Bool) → bank .natural ≡ b → sumOf (λ h. handPay o bank S h .back) hands + insurancePay bank I .back ≤ sumOf (λ h. handPay o bank S h .laid) hands + I + 8 * S
       go true e = simp e (omega (arith, seat-most hands S few (λ h. gain-against-natural h e)))
       go false e = simp e (omega (arith, seat-most hands (2 * S) few gain-most))
 
 -- what a seat can take from the tray in one round is at most its cover
-pub seat-cover : (o : Options) (bank : Score) (S : ℕ) (hands : List Played) (I : ℕ) → length hands ≤ 4 → I ≤ S → sum (λ h. handPay o bank S h .back) hands + insurancePay bank I .back + sum (prize o S) hands ≤ sum (λ h. handPay o bank S h .laid) hands + I + cover S
+pub seat-cover : (o : Options) (bank : Score) (S : ℕ) (hands : List Played) (I : ℕ) → length hands ≤ 4 → I ≤ S → sumOf (λ h. handPay o bank S h .back) hands + insurancePay bank I .back + sumOf (prize o S) hands ≤ sumOf (λ h. handPay o bank S h .laid) hands + I + cover S
 seat-cover o bank S hands I few most = omega (arith, seat-gain o bank S hands I few most, seat-prizes o S hands few)

@@ -6,7 +6,7 @@ use native.Mathlib.Numerals.{add-one}
 use native.Mathlib.Omega.{arith}
 use lib.ListN.{length, getD, take, drop, drop-of-length-le}
 use lib.Seq.{drop-cons}
-use Rattle.lists.specs.Sum.{isIt, count}
+use Rattle.lists.specs.Sum.{isIt, countOf}
 use Rattle.lists.proofs.Sums.{sum-take}
 use Rattle.script.specs.Begun.{placed, placedAll, placedFace, placedFaces}
 use Rattle.script.specs.declared.orders.Order.{Order}
@@ -34,10 +34,10 @@ face-end o face decks used h =
     rw none
 
 -- the faces below a number, and the one there
-pub faces-next : (o : Order) (first : List ℕ) (decks n : ℕ) → placedFaces o first decks (n + 1) ≡ placedFace (placedFaces o first decks n) n decks (count n first)
+pub faces-next : (o : Order) (first : List ℕ) (decks n : ℕ) → placedFaces o first decks (n + 1) ≡ placedFace (placedFaces o first decks n) n decks (countOf n first)
 unfolding placedFaces
 faces-next o first decks n = rw add-one
 
 -- a face among the first i + 1 cards: among the first i, and at i
-pub count-next : (face : ℕ) (cards : List ℕ) (i : ℕ) → i < length cards → count face (take (i + 1) cards) ≡ count face (take i cards) + isIt face (getD cards i 0)
+pub count-next : (face : ℕ) (cards : List ℕ) (i : ℕ) → i < length cards → countOf face (take (i + 1) cards) ≡ countOf face (take i cards) + isIt face (getD cards i 0)
 count-next face cards i h = rw (add-one, sum-take (isIt face) cards i 0)

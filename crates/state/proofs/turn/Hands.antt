@@ -8,7 +8,7 @@ use native.Mathlib.Omega.{arith}
 use lib.Dec.{ltb}
 use lib.ListN.{length, take, getD, length-map, List·getD-map}
 use lib.Seq.{take-all}
-use Rattle.lists.specs.Tests.{any, firstPlace}
+use Rattle.lists.specs.Tests.{anyOf, firstPlace}
 use Rattle.lists.proofs.Tests.{any-take, first-here, first-none, first-inside}
 use Rattle.rules.specs.SeatHand.{Played}
 use Rattle.table.specs.declared.Table.{Table}
@@ -28,13 +28,13 @@ module _ (t : Table) (full : length (t .seats) ≡ 9) where
   pub waits-below : (i : ℕ) → i ≡ seatInTurn t → anyWaits t ≡ ltb i 9
   waits-below i e = sym (ap (λ (k : ℕ). ltb k 9) e ∙ ap (ltb (seatInTurn t)) (sym nine-seats) ∙ first-inside (seatWaits (t .options) (up t)) (seatsHands t))
 
-  module _ (test : List Played → Bool) (i : ℕ) (none : any test (take i (seatsHands t)) ≡ false) where
+  module _ (test : List Played → Bool) (i : ℕ) (none : anyOf test (take i (seatsHands t)) ≡ false) where
     -- the seat passes, and is the first
     pub seat-found : i < 9 → test (hands (seatAt t i)) ≡ true → firstPlace test (seatsHands t) ≡ i
     seat-found h passes = first-here test (seatsHands t) i [] (omega (arith, nine-seats)) none (ap test (hands-of t i) ∙ passes)
 
     -- the seat does not pass either
-    pub seat-passed : i < 9 → test (hands (seatAt t i)) ≡ false → any test (take (i + 1) (seatsHands t)) ≡ false
+    pub seat-passed : i < 9 → test (hands (seatAt t i)) ≡ false → anyOf test (take (i + 1) (seatsHands t)) ≡ false
     seat-passed h fails = rw (add-one, any-take test (seatsHands t) i [] (omega (arith, nine-seats)), none) (ap test (hands-of t i) ∙ fails)
 
     -- no seat passes

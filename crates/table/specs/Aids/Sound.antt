@@ -3,7 +3,7 @@ use mathlib.Core.Path.{_≡_}
 use mathlib.Core.Bool.{Bool, true}
 use Prim.Native.Nat.{ℕ, _+_, _*_, _≤_, _<_}
 use lib.ListN.{length, getD}
-use Rattle.lists.specs.Sum.{count}
+use Rattle.lists.specs.Sum.{countOf}
 use Rattle.cards.specs.Card.{isAce}
 use Rattle.cards.specs.Hand.{cardsOf}
 use Rattle.cards.specs.Length.{couldBePlayed}
@@ -62,7 +62,7 @@ pub record Sound (t : Table) : Type 0 where
   pub valid : validOrder (t .options .decks) (tableOrder t) ≡ true
   pub drawn : t .shoe .drawn ≤ 52 * t .options .decks
   pub discarded : t .shoe .discarded ≤ 416
-  pub faces : (b : ℕ) → b < 256 → count b (outCards t) ≡ count b (tableDrawn t)
+  pub faces : (b : ℕ) → b < 256 → countOf b (outCards t) ≡ countOf b (tableDrawn t)
   pub number : length (outCards t) ≡ t .shoe .drawn
   pub seats : (i : ℕ) → i < 9 → SoundSeat (t .options) (isDealt t) (isAce (up t)) i (seatAt t i)
   pub bank : t .bank .count ≤ 1

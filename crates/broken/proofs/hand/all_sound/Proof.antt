@@ -8,7 +8,7 @@ use borrow.Author.Needs.{needs}
 use borrow.Author.Tests.{not-true, not-false}
 use lib.ListN.{length, take, getD, length-take, length-map}
 use lib.Seq.{getD-take}
-use Rattle.lists.specs.Tests.{all}
+use Rattle.lists.specs.Tests.{allOf}
 use Rattle.lists.proofs.Tests.{all-take, all-not-at}
 use Rattle.lists.proofs.Takes.{take-clamped}
 use Rattle.rules.proofs.seat_hand.Places.{none}
@@ -17,7 +17,7 @@ use Rattle.broken.proofs.hand.all_sound.Statement.{statement}
 use Rattle.broken.proofs.hand.all_sound.Tie as tie
 
 abbrev Inv-loop : tie.InvT-loop
-Inv-loop s n i₀ i = (i ≤ n) × (all soundHand (take i (s .places)) ≡ true)
+Inv-loop s n i₀ i = (i ≤ n) × (allOf soundHand (take i (s .places)) ≡ true)
 
 abbrev μ-loop : tie.MeasureT-loop
 μ-loop s n i₀ i = n - i
@@ -26,7 +26,7 @@ used-requires : tie.Need-used-requires Inv-loop μ-loop
 used-requires c κs = search needs
 
 loop-holds : tie.Need-loop-holds Inv-loop μ-loop
-unfolding all
+unfolding allOf
 loop-holds c = search needs
 
 mul-h : tie.Need-mul-h Inv-loop μ-loop
@@ -68,7 +68,7 @@ returns-2 c =
     let s = c .before .before .before .args .t1 in
     let full : length (s .places) ≡ 4 = simp length-map at (c .before .before .before .good .0 .1 .1 .0 .1 .0 .1) in
     let used = c .before .before .used .ensures in
-    sym (c .before .loop .inv .1) ∙ ap (all soundHand) (take-clamped (s .places) (s .many) (c .before .loop .i) (omega arith))
+    sym (c .before .loop .inv .1) ∙ ap (allOf soundHand) (take-clamped (s .places) (s .many) (c .before .loop .i) (omega arith))
 
 pub all-sound-spec : {M : Type 1} → statement M
 all-sound-spec =

@@ -1,6 +1,6 @@
 -- The tests are the definition's, in its order.
 use mathlib.Core.Path.{_≡_, sym, ap, _∙_}
-use Prim.Native.Nat.{ℕ, _+_}
+use Prim.Native.Nat.{_+_}
 use lib.Dec.{leb}
 use borrow.Author.Needs.{needs}
 use Rattle.options.specs.declared.Options.{Options}

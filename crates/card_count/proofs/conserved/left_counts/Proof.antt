@@ -6,7 +6,7 @@ use borrow.Author.Needs.{needs}
 use lib.ListN.{length, take, drop, length-take}
 use lib.Seq.{length-take-le}
 use Rattle.card_count.specs.Aids.Counters.{countedAll, noCounts}
-use Rattle.card_count.proofs.counters.Tallies.{room-zeros}
+use Rattle.card_count.proofs.counters.Counts.{room-zeros}
 use Rattle.card_count.proofs.conserved.Beside.{left-part}
 use Rattle.card_count.proofs.conserved.left_counts.Statement.{statement}
 use Rattle.card_count.proofs.conserved.left_counts.Tie as tie

@@ -3,7 +3,7 @@ use mathlib.Core.Path.{_≡_, sym, ap, _∙_}
 use Prim.Native.Nat.{_*_, _≤_}
 use native.Mathlib.Omega.{arith}
 use borrow.Author.Needs.{needs}
-use lib.ListN.{length, take, drop, length-take, length-drop}
+use lib.ListN.{length, take, length-take, length-drop}
 use lib.Seq.{length-take-le, take-take}
 use Rattle.card_count.specs.Aids.Counters.{countedAll}
 use Rattle.table.specs.Shoe.{leftOf, orderOf}

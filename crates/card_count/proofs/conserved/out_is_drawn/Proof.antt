@@ -5,7 +5,7 @@ use Prim.Native.Nat.{_*_, _≤_}
 use native.Mathlib.Omega.{arith}
 use borrow.Author.Needs.{needs}
 use borrow.Author.Tests.{eq-eqb, ne-eqb}
-use lib.ListN.{length, take, drop, length-take, length-drop}
+use lib.ListN.{length, length-take, length-drop}
 use Rattle.table.specs.Shoe.{leftOf, orderOf}
 use Rattle.table.specs.Faces.{outCards}
 use Rattle.table.specs.Broken.{soundFaces}

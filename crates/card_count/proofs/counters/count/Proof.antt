@@ -7,7 +7,7 @@ use borrow.Author.Needs.{needs}
 use lib.ListN.{length, take, getD}
 use lib.Seq.{take-all, length-take-le}
 use Rattle.card_count.specs.Aids.Counters.{countedAll, counted, Room}
-use Rattle.card_count.proofs.counters.Tallies.{tally-next, room-after}
+use Rattle.card_count.proofs.counters.Counts.{counted-next, room-after}
 use Rattle.card_count.proofs.counters.count.Statement.{statement}
 use Rattle.card_count.proofs.counters.count.Tie as tie
 
@@ -61,7 +61,7 @@ loop-again c =
     let cards = at .before .args .cards .now in
     let i = at .loop .i in
     let below : i < length cards = omega arith in
-    (omega arith, ap (λ (of : List ℕ). counted of (getD cards i 0)) (at .loop .inv .1) ∙ tally-next (at .before .args .of .now) cards i below)
+    (omega arith, ap (λ (of : List ℕ). counted of (getD cards i 0)) (at .loop .inv .1) ∙ counted-next (at .before .args .of .now) cards i below)
 
 returns : tie.Need-returns Inv-loop μ-loop
 returns c =

@@ -5,7 +5,7 @@ use native.Mathlib.Omega.{arith}
 use borrow.Author.Tests.{ne-eqb}
 use lib.ListN.{length}
 use Rattle.card_count.specs.Aids.Counters.{noCounts}
-use Rattle.card_count.proofs.counters.Tallies.{room-zeros}
+use Rattle.card_count.proofs.counters.Counts.{room-zeros}
 use Rattle.table.specs.Shoe.{validOrder}
 use Rattle.card_count.proofs.valid_order.Orders.{faces-decide}
 use borrow.Author.Needs.{needs}

@@ -5,7 +5,7 @@ use native.Mathlib.Omega.{arith}
 use Prim.Native.Nat.{ℕ}
 use lib.ListN.{length, getD}
 use borrow.Author.Tests.{ne-eqb, eqb-true, lt-leb}
-use Rattle.lists.specs.Tests.{any}
+use Rattle.lists.specs.Tests.{anyOf}
 use Rattle.lists.proofs.Takes.{count-taken, take-two}
 use Rattle.cards.specs.Card.{rankOf, isAce, isTenValue}
 use Rattle.cards.specs.Natural.{isNatural}
@@ -36,7 +36,7 @@ is-ten-value-requires : tie.Need-is-ten-value-requires
 is-ten-value-requires c κs = search needs
 
 returns-2 : tie.Need-returns-2
-unfolding isNatural any
+unfolding isNatural anyOf
 returns-2 c =
     let h = c .before .before .before .before .before .before .args .t1 in
     let full : length (h .cards) ≡ 20 = search needs in
@@ -51,7 +51,7 @@ is-ten-value-requires-2 : tie.Need-is-ten-value-requires-2
 is-ten-value-requires-2 c κs = search needs
 
 returns-3 : tie.Need-returns-3
-unfolding isNatural any
+unfolding isNatural anyOf
 returns-3 c =
     let h = c .before .before .before .before .before .before .before .before .args .t1 in
     let full : length (h .cards) ≡ 20 = search needs in
@@ -61,7 +61,7 @@ returns-3 c =
     simp (cards, none, ace, ace-no-ten (getD (h .cards) 1 0) ace, or-false) (c .is-ten-value2 .ensures)
 
 returns-4 : tie.Need-returns-4
-unfolding isNatural any
+unfolding isNatural anyOf
 returns-4 c =
     let h = c .before .before .before .before .before .before .before .args .t1 in
     let full : length (h .cards) ≡ 20 = search needs in

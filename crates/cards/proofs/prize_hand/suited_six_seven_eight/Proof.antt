@@ -3,7 +3,7 @@ use mathlib.Core.Path.{refl, sym, _∙_}
 use mathlib.Core.Bool.{and-true, and-false}
 use native.Mathlib.Omega.{arith}
 use borrow.Author.Tests.{eq-eqb, ne-eqb, not-true, not-false}
-use Rattle.lists.specs.Tests.{all}
+use Rattle.lists.specs.Tests.{allOf}
 use Rattle.cards.specs.Card.{suitOf}
 use Rattle.cards.specs.PrizeHand.{suitedSixSevenEight}
 use borrow.Author.Needs.{needs}
@@ -38,7 +38,7 @@ suit-requires-2 : tie.Need-suit-requires-2
 suit-requires-2 c κs = search needs
 
 returns-4 : tie.Need-returns-4
-unfolding all suitedSixSevenEight
+unfolding allOf suitedSixSevenEight
 returns-4 c =
     let at = c .before .before .before .before .before .before .before .before .before .args in
     simp (ne-eqb (suitOf (at .b)) (suitOf (at .a)) (omega arith), and-false)
@@ -50,7 +50,7 @@ suit-requires-4 : tie.Need-suit-requires-4
 suit-requires-4 c κs = search needs
 
 returns-5 : tie.Need-returns-5
-unfolding all suitedSixSevenEight
+unfolding allOf suitedSixSevenEight
 returns-5 c =
     let third = c .before .before .before .before .before in
     let second = third .before .before in

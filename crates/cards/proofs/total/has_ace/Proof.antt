@@ -7,7 +7,7 @@ use native.Mathlib.Omega.{arith}
 use borrow.Author.Needs.{needs}
 use lib.ListN.{length, getD, take, length-take}
 use lib.Seq.{getD-take}
-use Rattle.lists.specs.Tests.{any}
+use Rattle.lists.specs.Tests.{anyOf}
 use Rattle.lists.proofs.Tests.{any-take, any-at}
 use Rattle.lists.proofs.Takes.{take-clamped}
 use Rattle.cards.specs.Card.{isAce}
@@ -26,7 +26,7 @@ held-requires : tie.Need-held-requires Inv-loop μ-loop
 held-requires c κs = search needs
 
 loop-holds : tie.Need-loop-holds Inv-loop μ-loop
-unfolding any
+unfolding anyOf
 loop-holds c = search needs
 
 element-copy-out-card : tie.Need-element-copy-out-card Inv-loop μ-loop

@@ -5,7 +5,7 @@ use native.Mathlib.Numerals.{add-one}
 use native.Mathlib.Omega.{arith}
 use borrow.Author.Needs.{needs}
 use lib.ListN.{length, getD, take}
-use Rattle.lists.specs.Sum.{sum}
+use Rattle.lists.specs.Sum.{sumOf}
 use Rattle.lists.proofs.Sums.{sum-take}
 use Rattle.lists.proofs.Takes.{take-clamped}
 use Rattle.cards.specs.Points.{pointsOf}
@@ -15,16 +15,16 @@ use Rattle.cards.proofs.total.low_sum.Statement.{statement}
 use Rattle.cards.proofs.total.low_sum.Tie as tie
 
 abbrev Inv-loop : tie.InvT-loop
-Inv-loop h n sum₀ i₀ sum i = (i ≤ n) × (sum ≡ lowSum (take i (h .cards))) × (sum ≤ 10 * i)
+Inv-loop h n sum₀ i₀ sumOf i = (i ≤ n) × (sumOf ≡ lowSum (take i (h .cards))) × (sumOf ≤ 10 * i)
 
 abbrev μ-loop : tie.MeasureT-loop
-μ-loop h n sum₀ i₀ sum i = n - i
+μ-loop h n sum₀ i₀ sumOf i = n - i
 
 held-requires : tie.Need-held-requires Inv-loop μ-loop
 held-requires c κs = search needs
 
 loop-holds : tie.Need-loop-holds Inv-loop μ-loop
-unfolding sum
+unfolding sumOf
 loop-holds c = search needs
 
 element-copy-out-card : tie.Need-element-copy-out-card Inv-loop μ-loop

@@ -1,17 +1,10 @@
--- The number decides: the table as it was, or the effect; an accepted call's seat is one of the nine, and its amount fits.
-use mathlib.Core.Path.{_≡_, sym, ap, _∙_}
-use Prim.Native.Nat.{_+_, _≤_}
+-- The number decides: the table as it was, or the effect; an accepted call's seat is one of the nine, and the money on the table stays within the limit.
+use mathlib.Core.Path.{sym, _∙_}
 use native.Mathlib.Omega.{arith}
-use lib.ListN.{length, length-map}
 use borrow.Author.Needs.{needs}
-use Rattle.lists.proofs.Sums.{sum-has}
-use Rattle.table.specs.Seat.{missingSeat, purse, withPurse}
-use Rattle.table.specs.Table.{seatAt, withSeat}
-use Rattle.table.specs.Money.{purses}
-use Rattle.table.specs.declared.Seat.{Seat}
 use Rattle.answer.proofs.outcome.Laws.{refused, accepted}
 use Rattle.cashier_spec.specs.Buy.{buyConditions, buyEffect}
-use Rattle.cashier_spec.proofs.Accepted.{buy-accepted}
+use Rattle.cashier_spec.proofs.Buy.{buy-accepted, buy-fits}
 use Rattle.cashier.proofs.buy.buy.Statement.{statement}
 use Rattle.cashier.proofs.buy.buy.Tie as tie
 
@@ -20,45 +13,36 @@ buy-number-requires c κs = search needs
 
 returns : tie.Need-returns
 returns c =
-    let t = c .before .before .args .t in
-    let j = c .before .before .args .at .seat in
-    let n = c .before .before .args .n in
-    refused (buyConditions t j n) (buyEffect t j n) t _ (c .before .buy-number .ensures) (c .if1 .taken)
+    let call = c .before in
+    let t = call .before .args .t in
+    let j = call .before .args .at .seat in
+    let n = call .before .args .n in
+    refused (buyConditions t j n) (buyEffect t j n) t _ (call .buy-number .ensures) (c .if1 .taken)
 
-cast-j : tie.Need-cast-j
-cast-j c = search needs
+purse-at-requires : tie.Need-purse-at-requires
+purse-at-requires c κs =
+    let call = c .before in
+    buy-accepted (call .before .args .t) (call .before .args .at .seat) (call .before .args .n) (sym (call .buy-number .ensures) ∙ c .if1 .left) .seat .nine
 
-seat-at-requires : tie.Need-seat-at-requires
-seat-at-requires c κs =
-    let start = c .before .before .before in
-    buy-accepted (start .args .t) (start .args .at .seat) (start .args .n) (sym (c .before .before .buy-number .ensures) ∙ c .before .if1 .left) .0
+add-with-purse-at : tie.Need-add-with-purse-at
+add-with-purse-at c =
+    let call = c .before .before in
+    record { fits = omega (arith, c .purse-at .ensures, buy-fits (call .before .args .t) (call .before .args .at .seat) (call .before .args .n) (sym (call .buy-number .ensures) ∙ c .before .if1 .left)) }
 
-add-with-purse : tie.Need-add-with-purse
-add-with-purse c =
-    let start = c .before .before .before .before .before .before in
-    let t = start .args .t in
-    let nine : length (t .seats) ≡ 9 = simp length-map at (start .good .0 .1 .1 .1 .1 .0 .1 .0 .1) in
-    let (within, most) = buy-accepted (start .args .t) (start .args .at .seat) (start .args .n) (sym (c .before .before .before .before .before .buy-number .ensures) ∙ c .before .before .before .before .if1 .left) in
-    let held : purse (seatAt t (start .args .at .seat)) ≤ purses t = sum-has purse (t .seats) (start .args .at .seat) missingSeat (omega arith) in
-    let same : c .before .before .seat-at .result .money .purse ≡ purse (seatAt t (start .args .at .seat)) = ap purse (c .before .before .seat-at .ensures) in
-    record { fits = omega arith }
-
-with-purse-requires : tie.Need-with-purse-requires
-with-purse-requires c κs = search needs
-
-with-seat-requires : tie.Need-with-seat-requires
-with-seat-requires c κs = search needs
+with-purse-at-requires : tie.Need-with-purse-at-requires
+with-purse-at-requires c κs =
+    let call = c .before .before in
+    buy-accepted (call .before .args .t) (call .before .args .at .seat) (call .before .args .n) (sym (call .buy-number .ensures) ∙ c .before .if1 .left) .seat .nine
 
 returns-2 : tie.Need-returns-2
 unfolding buyEffect
 returns-2 c =
-    let t = c .before .before .before .before .before .before .before .before .args .t in
-    let j = c .before .before .before .before .before .before .before .before .args .at .seat in
-    let n = c .before .before .before .before .before .before .before .before .args .n in
-    let next : c .before .with-purse .result ≡ withPurse (seatAt t j) (purse (seatAt t j) + n)
-    = c .before .with-purse .ensures ∙ ap (λ (s : Seat). withPurse s (purse s + n)) (c .before .before .before .before .seat-at .ensures) in
-    accepted (buyConditions t j n) (buyEffect t j n) t _ _ (c .before .before .before .before .before .before .before .buy-number .ensures) (c .before .before .before .before .before .before .if1 .left)
-    (c .with-seat .ensures ∙ ap (withSeat t j) next)
+    let call = c .before .before .before in
+    let t = call .before .args .t in
+    let j = call .before .args .at .seat in
+    let n = call .before .args .n in
+    accepted (buyConditions t j n) (buyEffect t j n) t _ _ (call .buy-number .ensures) (c .before .before .if1 .left)
+    (c .with-purse-at .ensures ∙ cc)
 
 pub buy-spec : {M : Type 1} → statement M
 buy-spec =
@@ -66,9 +50,7 @@ buy-spec =
     (tie.spec
     buy-number-requires
     returns
-    cast-j
-    seat-at-requires
-    add-with-purse
-    with-purse-requires
-    with-seat-requires
+    purse-at-requires
+    add-with-purse-at
+    with-purse-at-requires
     returns-2)

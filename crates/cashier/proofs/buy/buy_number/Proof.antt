@@ -1,33 +1,27 @@
--- The conditions are asked in the order of the list: the shared ones first.
-use mathlib.Core.Path.{sym, _∙_}
+-- The conditions are asked in the order of the list: those of every call of a seat first.
+use mathlib.Core.Path.{refl, sym, _∙_}
 use borrow.Author.Needs.{needs}
-use borrow.Author.Tests.{eq-eqb, ne-eqb}
-use Rattle.call.proofs.Refusals.{first-before, first-here, first-next, first-last}
+use Rattle.call.specs.Refusal.{first}
 use Rattle.money.proofs.most_money.Laws.{past-limit}
+use Rattle.answer.proofs.conditions.Laws.{seat-asked, seat-refuses, seat-passes}
 use Rattle.cashier_spec.specs.Buy.{buyConditions}
-use Rattle.cashier_spec.specs.Between.{betweenConditions}
-use Rattle.cashier.proofs.between.Answer.{between-behind}
 use Rattle.cashier.proofs.buy.buy_number.Statement.{statement}
 use Rattle.cashier.proofs.buy.buy_number.Tie as tie
 
 broken-requires : tie.Need-broken-requires
 broken-requires c κs = search needs
 
-between-number-requires : tie.Need-between-number-requires
-between-number-requires c κs = search needs
+is-dealt-requires : tie.Need-is-dealt-requires
+is-dealt-requires c κs = search needs
+
+seat-number-requires : tie.Need-seat-number-requires
+seat-number-requires c κs = search needs
 
 returns : tie.Need-returns
 unfolding buyConditions
 returns c =
-    let start = c .before .before .before in
-    sym (first-before (betweenConditions (start .args .t) (start .args .at .seat)) _ _ (sym (c .before .between-number .ensures)) (c .if1 .taken))
-
-returns-2 : tie.Need-returns-2
-unfolding buyConditions
-returns-2 c =
-    let start = c .before .before .before .before in
-    sym (between-behind (start .args .t) (start .args .at .seat) (sym (c .before .before .between-number .ensures) ∙ c .before .if1 .left) _
-    ∙ first-here _ _ _ (eq-eqb _ _ (c .if2 .taken)))
+    let early = seat-asked _ _ 4 _ _ _ _ (c .before .seat-number .ensures) (c .before .before .before .broken .ensures) (c .before .before .is-dealt .ensures) in
+    seat-refuses _ _ _ _ early (c .if1 .taken) _
 
 table-sums-requires : tie.Need-table-sums-requires
 table-sums-requires c κs = search needs
@@ -35,31 +29,32 @@ table-sums-requires c κs = search needs
 past-most-money-requires : tie.Need-past-most-money-requires
 past-most-money-requires c κs = search needs
 
-returns-3 : tie.Need-returns-3
-unfolding buyConditions
-returns-3 c =
-    let start = c .before .before .before .before .before .before .before in
-    sym (between-behind (start .args .t) (start .args .at .seat) (sym (c .before .before .before .before .before .between-number .ensures) ∙ c .before .before .before .before .if1 .left) _
-    ∙ first-next _ _ _ (ne-eqb _ _ (c .before .before .before .if2 .left))
-    ∙ first-here _ _ _ (sym (c .before .past-most-money .ensures ∙ past-limit (start .args .t) _ (start .args .n) (c .before .before .table-sums .ensures)) ∙ c .if3 .taken))
+asked-requires : tie.Need-asked-requires
+asked-requires c κs = search needs
 
-returns-4 : tie.Need-returns-4
-unfolding buyConditions
-returns-4 c =
-    let start = c .before .before .before .before .before .before .before in
-    sym (between-behind (start .args .t) (start .args .at .seat) (sym (c .before .before .before .before .before .between-number .ensures) ∙ c .before .before .before .before .if1 .left) _
-    ∙ first-next _ _ _ (ne-eqb _ _ (c .before .before .before .if2 .left))
-    ∙ first-last _ _ (sym (c .before .past-most-money .ensures ∙ past-limit (start .args .t) _ (start .args .n) (c .before .before .table-sums .ensures)) ∙ c .if3 .left))
+asked-requires-2 : tie.Need-asked-requires-2
+asked-requires-2 c κs = search needs
+
+returns-2 : tie.Need-returns-2
+unfolding buyConditions first
+returns-2 c =
+    let sums = c .before .before .before in
+    let passed = sums .before in
+    let call = passed .before in
+    let start = call .before .before .before .before in
+    let early = seat-asked _ _ 4 _ _ _ _ (call .seat-number .ensures) (call .before .before .broken .ensures) (call .before .is-dealt .ensures) in
+    (simp (c .asked2 .ensures, c .before .asked .ensures, c .before .before .past-most-money .ensures, past-limit (start .args .t) _ (start .args .n) (sums .table-sums .ensures))) ∙ sym (seat-passes _ _ _ _ early refl (passed .if1 .left) _)
 
 pub buy-number-spec : {M : Type 1} → statement M
 buy-number-spec =
     tie.close
     (tie.spec
     broken-requires
-    between-number-requires
+    is-dealt-requires
+    seat-number-requires
     returns
-    returns-2
     table-sums-requires
     past-most-money-requires
-    returns-3
-    returns-4)
+    asked-requires
+    asked-requires-2
+    returns-2)

@@ -1,9 +1,9 @@
 -- The number decides: the table as it was, or the effect.
-use mathlib.Core.Path.{refl, sym, _∙_}
+use mathlib.Core.Path.{sym, _∙_}
 use borrow.Author.Needs.{needs}
 use Rattle.answer.proofs.outcome.Laws.{refused, accepted}
 use Rattle.cashier_spec.specs.Credit.{creditConditions, creditEffect}
-use Rattle.cashier_spec.proofs.Tray.{credit-enough}
+use Rattle.cashier_spec.proofs.Credit.{credit-accepted}
 use Rattle.cashier.proofs.credit.credit.Statement.{statement}
 use Rattle.cashier.proofs.credit.credit.Tie as tie
 
@@ -16,17 +16,21 @@ returns c =
     let n = c .before .before .args .n in
     refused (creditConditions t n) (creditEffect t n) t _ (c .before .credit-number .ensures) (c .if1 .taken)
 
-sub-next : tie.Need-sub-next
-sub-next c =
-    let start = c .before .before .before in
-    credit-enough (start .args .t) (start .args .n) (sym (c .before .before .credit-number .ensures) ∙ c .before .if1 .left) .1
+sub-with-tray : tie.Need-sub-with-tray
+sub-with-tray c =
+    let call = c .before .before in
+    credit-accepted (call .before .args .t) (call .before .args .n) (sym (call .credit-number .ensures) ∙ c .before .if1 .left) .enough
+
+with-tray-requires : tie.Need-with-tray-requires
+with-tray-requires c κs = search needs
 
 returns-2 : tie.Need-returns-2
 unfolding creditEffect
 returns-2 c =
-    let t = c .before .before .before .args .t in
-    let n = c .before .before .before .args .n in
-    accepted (creditConditions t n) (creditEffect t n) t _ _ (c .before .before .credit-number .ensures) (c .before .if1 .left) refl
+    let call = c .before .before .before in
+    let t = call .before .args .t in
+    let n = call .before .args .n in
+    accepted (creditConditions t n) (creditEffect t n) t _ _ (call .credit-number .ensures) (c .before .before .if1 .left) (c .with-tray .ensures)
 
 pub credit-spec : {M : Type 1} → statement M
-credit-spec = tie.close (tie.spec credit-number-requires returns sub-next returns-2)
+credit-spec = tie.close (tie.spec credit-number-requires returns sub-with-tray with-tray-requires returns-2)

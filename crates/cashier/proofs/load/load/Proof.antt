@@ -4,7 +4,7 @@ use borrow.Author.Needs.{needs}
 use Rattle.answer.proofs.outcome.Laws.{refused, accepted}
 use Rattle.table.specs.Table.{withShoe}
 use Rattle.cashier_spec.specs.Load.{loadConditions, loadEffect}
-use Rattle.cashier_spec.proofs.Loads.{load-fits}
+use Rattle.cashier_spec.proofs.Load.{load-fits}
 use Rattle.cashier.proofs.load.load.Statement.{statement}
 use Rattle.cashier.proofs.load.load.Tie as tie
 

@@ -9,7 +9,7 @@ use Rattle.table.specs.declared.Shoe.{Shoe}
 use Rattle.table.specs.Seat.{emptySeat}
 use Rattle.table.specs.Table.{makeTable}
 use Rattle.cashier_spec.specs.Opening.{openConditions, openTable, emptyTable}
-use Rattle.cashier_spec.proofs.Opens.{open-fits}
+use Rattle.cashier_spec.proofs.Opening.{open-fits}
 use Rattle.cashier.proofs.opening.opening.Statement.{statement}
 use Rattle.cashier.proofs.opening.opening.Tie as tie
 

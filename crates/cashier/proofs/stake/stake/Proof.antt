@@ -1,14 +1,13 @@
 -- The number decides: the table as it was, or the effect; an accepted stake's seat is one of the nine, and its purse holds it.
 use mathlib.Core.Path.{_≡_, sym, ap, _∙_}
 use Prim.Native.Nat.{_-_}
-use native.Mathlib.Omega.{arith}
 use borrow.Author.Needs.{needs}
 use Rattle.table.specs.declared.Seat.{Seat}
 use Rattle.table.specs.Seat.{money, makeSeat, purse, insurance}
 use Rattle.table.specs.Table.{seatAt, withSeat}
 use Rattle.answer.proofs.outcome.Laws.{refused, accepted}
 use Rattle.cashier_spec.specs.Stake.{stakeConditions, stakeEffect}
-use Rattle.cashier_spec.proofs.Accepted.{stake-accepted}
+use Rattle.cashier_spec.proofs.Stake.{stake-accepted, stake-fits}
 use Rattle.cashier.proofs.stake.stake.Statement.{statement}
 use Rattle.cashier.proofs.stake.stake.Tie as tie
 
@@ -28,14 +27,16 @@ cast-j c = search needs
 seat-at-requires : tie.Need-seat-at-requires
 seat-at-requires c κs =
     let start = c .before .before .before in
-    stake-accepted (start .args .t) (start .args .at .seat) (start .args .n) (sym (c .before .before .stake-number .ensures) ∙ c .before .if1 .left) .0
+    stake-accepted (start .args .t) (start .args .at .seat) (start .args .n) (sym (c .before .before .stake-number .ensures) ∙ c .before .if1 .left) .seat .nine
 
 staked-requires : tie.Need-staked-requires
 staked-requires c κs =
     let start = c .before .before .before .before in
-    let facts = stake-accepted (start .args .t) (start .args .at .seat) (start .args .n) (sym (c .before .before .before .stake-number .ensures) ∙ c .before .before .if1 .left) in
-    let same : purse (c .seat-at .result) ≡ purse (seatAt (start .args .t) (start .args .at .seat)) = ap purse (c .seat-at .ensures) in
-    (omega (arith, facts .1), facts .2)
+    let t = start .args .t in
+    let j = start .args .at .seat in
+    let n = start .args .n in
+    let none = sym (c .before .before .before .stake-number .ensures) ∙ c .before .before .if1 .left in
+    (rw (c .seat-at .ensures) (stake-accepted t j n none .enough), stake-fits t j n none)
 
 with-seat-requires : tie.Need-with-seat-requires
 with-seat-requires c κs = search needs

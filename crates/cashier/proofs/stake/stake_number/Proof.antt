@@ -1,99 +1,82 @@
--- The conditions are asked in the order of the list: the shared ones first.
-use mathlib.Core.Path.{sym, ap, _∙_}
-use mathlib.Core.Bool.{not}
-use lib.Dec.{ltb}
-use Rattle.table.specs.declared.Seat.{Seat}
-use Rattle.table.specs.Seat.{purse, isStaked}
+-- The conditions are asked in the order of the list: those of every call of a seat first.
+use mathlib.Core.Path.{refl, sym, _∙_}
 use borrow.Author.Needs.{needs}
-use borrow.Author.Tests.{lt-ltb, le-ltb, eq-eqb, ne-eqb}
-use Rattle.call.proofs.Refusals.{first-before, first-here, first-next, first-last}
+use Rattle.call.specs.Refusal.{first}
+use Rattle.answer.proofs.conditions.Laws.{seat-asked, seat-refuses, seat-passes, seat-nine}
 use Rattle.cashier_spec.specs.Stake.{stakeConditions}
-use Rattle.cashier_spec.specs.Between.{betweenConditions}
-use Rattle.cashier.proofs.between.Answer.{between-behind, between-seat}
 use Rattle.cashier.proofs.stake.stake_number.Statement.{statement}
 use Rattle.cashier.proofs.stake.stake_number.Tie as tie
 
 broken-requires : tie.Need-broken-requires
 broken-requires c κs = search needs
 
-between-number-requires : tie.Need-between-number-requires
-between-number-requires c κs = search needs
+is-dealt-requires : tie.Need-is-dealt-requires
+is-dealt-requires c κs = search needs
+
+seat-number-requires : tie.Need-seat-number-requires
+seat-number-requires c κs = search needs
 
 returns : tie.Need-returns
 unfolding stakeConditions
 returns c =
-    let start = c .before .before .before .before in
-    sym (first-before (betweenConditions (start .args .t) (start .args .at .seat)) _ _ (sym (c .before .between-number .ensures)) (c .if1 .taken))
+    let early = seat-asked _ _ 4 _ _ _ _ (c .before .seat-number .ensures) (c .before .before .before .broken .ensures) (c .before .before .is-dealt .ensures) in
+    seat-refuses _ _ _ _ early (c .if1 .taken) _
 
 cast-seat-at : tie.Need-cast-seat-at
 cast-seat-at c = search needs
 
 seat-at-requires : tie.Need-seat-at-requires
 seat-at-requires c κs =
-    let start = c .before .before .before .before .before in
-    between-seat (start .args .t) (start .args .at .seat) (sym (c .before .before .between-number .ensures) ∙ c .before .if1 .left)
-
-returns-2 : tie.Need-returns-2
-unfolding stakeConditions
-returns-2 c =
-    let start = c .before .before .before .before .before .before .before .before .before in
-    sym (between-behind (start .args .t) (start .args .at .seat) (sym (c .before .before .before .before .before .before .between-number .ensures) ∙ c .before .before .before .before .before .if1 .left) _
-    ∙ first-here _ _ _ (ap isStaked (sym (c .before .before .before .seat-at .ensures)) ∙ lt-ltb _ _ (c .if2 .taken)))
-
-returns-3 : tie.Need-returns-3
-unfolding stakeConditions
-returns-3 c =
-    let start = c .before .before .before .before .before .before .before .before .before .before in
-    sym (between-behind (start .args .t) (start .args .at .seat) (sym (c .before .before .before .before .before .before .before .between-number .ensures) ∙ c .before .before .before .before .before .before .if1 .left) _
-    ∙ first-next _ _ _ (ap isStaked (sym (c .before .before .before .before .seat-at .ensures)) ∙ le-ltb _ _ (c .before .if2 .left))
-    ∙ first-here _ _ _ (eq-eqb _ _ (c .if3 .taken)))
+    let call = c .before .before in
+    let early = seat-asked _ _ 4 _ _ _ _ (call .seat-number .ensures) (call .before .before .broken .ensures) (call .before .is-dealt .ensures) in
+    seat-nine _ _ _ _ early refl (c .before .if1 .left)
 
 stake-permitted-requires : tie.Need-stake-permitted-requires
 stake-permitted-requires c κs = search needs
 
-returns-4 : tie.Need-returns-4
-unfolding stakeConditions
-returns-4 c =
-    let start = c .before .before .before .before .before .before .before .before .before .before .before .before in
-    sym (between-behind (start .args .t) (start .args .at .seat) (sym (c .before .before .before .before .before .before .before .before .before .between-number .ensures) ∙ c .before .before .before .before .before .before .before .before .if1 .left) _
-    ∙ first-next _ _ _ (ap isStaked (sym (c .before .before .before .before .before .before .seat-at .ensures)) ∙ le-ltb _ _ (c .before .before .before .if2 .left))
-    ∙ first-next _ _ _ (ne-eqb _ _ (c .before .before .if3 .left))
-    ∙ first-here _ _ _ (ap not (sym (c .before .stake-permitted .ensures)) ∙ c .if4 .taken))
+asked-requires : tie.Need-asked-requires
+asked-requires c κs = search needs
 
-returns-5 : tie.Need-returns-5
-unfolding stakeConditions
-returns-5 c =
-    let start = c .before .before .before .before .before .before .before .before .before .before .before .before .before .before in
-    let n = start .args .n in
-    sym (between-behind (start .args .t) (start .args .at .seat) (sym (c .before .before .before .before .before .before .before .before .before .before .before .between-number .ensures) ∙ c .before .before .before .before .before .before .before .before .before .before .if1 .left) _
-    ∙ first-next _ _ _ (ap isStaked (sym (c .before .before .before .before .before .before .before .before .seat-at .ensures)) ∙ le-ltb _ _ (c .before .before .before .before .before .if2 .left))
-    ∙ first-next _ _ _ (ne-eqb _ _ (c .before .before .before .before .if3 .left))
-    ∙ first-next _ _ _ (ap not (sym (c .before .before .before .stake-permitted .ensures)) ∙ c .before .before .if4 .left)
-    ∙ first-here _ _ _ (ap (λ (s : Seat). ltb (purse s) n) (sym (c .before .before .before .before .before .before .before .before .seat-at .ensures)) ∙ lt-ltb _ _ (c .if5 .taken)))
+asked-requires-2 : tie.Need-asked-requires-2
+asked-requires-2 c κs = search needs
 
-returns-6 : tie.Need-returns-6
-unfolding stakeConditions
-returns-6 c =
-    let start = c .before .before .before .before .before .before .before .before .before .before .before .before .before .before in
-    let n = start .args .n in
-    sym (between-behind (start .args .t) (start .args .at .seat) (sym (c .before .before .before .before .before .before .before .before .before .before .before .between-number .ensures) ∙ c .before .before .before .before .before .before .before .before .before .before .if1 .left) _
-    ∙ first-next _ _ _ (ap isStaked (sym (c .before .before .before .before .before .before .before .before .seat-at .ensures)) ∙ le-ltb _ _ (c .before .before .before .before .before .if2 .left))
-    ∙ first-next _ _ _ (ne-eqb _ _ (c .before .before .before .before .if3 .left))
-    ∙ first-next _ _ _ (ap not (sym (c .before .before .before .stake-permitted .ensures)) ∙ c .before .before .if4 .left)
-    ∙ first-last _ _ (ap (λ (s : Seat). ltb (purse s) n) (sym (c .before .before .before .before .before .before .before .before .seat-at .ensures)) ∙ le-ltb _ _ (c .if5 .left)))
+asked-requires-3 : tie.Need-asked-requires-3
+asked-requires-3 c κs = search needs
+
+asked-requires-4 : tie.Need-asked-requires-4
+asked-requires-4 c κs = search needs
+
+returns-2 : tie.Need-returns-2
+unfolding stakeConditions first
+returns-2 c =
+    let permitted = c .before .before .before .before .before in
+    let seat = permitted .before .before .before in
+    let passed = seat .before .before in
+    let call = passed .before in
+    let early = seat-asked _ _ 4 _ _ _ _ (call .seat-number .ensures) (call .before .before .broken .ensures) (call .before .is-dealt .ensures) in
+    (simp (
+      c .asked4 .ensures,
+      c .before .asked3 .ensures,
+      c .before .before .asked2 .ensures,
+      c .before .before .before .asked .ensures,
+      permitted .stake-permitted .ensures,
+      seat .seat-at .ensures,
+    ))
+    ∙ sym (seat-passes _ _ _ _ early refl (passed .if1 .left) _)
 
 pub stake-number-spec : {M : Type 1} → statement M
 stake-number-spec =
     tie.close
     (tie.spec
     broken-requires
-    between-number-requires
+    is-dealt-requires
+    seat-number-requires
     returns
     cast-seat-at
     seat-at-requires
-    returns-2
-    returns-3
     stake-permitted-requires
-    returns-4
-    returns-5
-    returns-6)
+    asked-requires
+    asked-requires-2
+    asked-requires-3
+    asked-requires-4
+    returns-2)

@@ -9,10 +9,11 @@ use lib.Seq.{take-all}
 use Rattle.table.specs.declared.Seat.{Seat}
 use Rattle.table.specs.Seat.{missingSeat}
 use Rattle.close_spec.specs.PayLines.{seatLines, allLines}
-use Rattle.close_spec.proofs.Lines.{seat-lines-next}
-use Rattle.answer.specs.declared.PayLines.{PayLines}
-use Rattle.answer.specs.Settlement.{emptyLines, withLines}
-use Rattle.answer.proofs.Lines.{lines-none, lines-more, lines-all}
+use Rattle.close_spec.proofs.PayLines.{seat-lines-next}
+use Rattle.answer.specs.declared.settlement.PayLines.{PayLines}
+use Rattle.answer.specs.Settlement.{emptyLines}
+use Rattle.answer.specs.Aids.WithLines.{withLines}
+use Rattle.answer.proofs.settlement.Lines.{lines-none, lines-more, lines-all}
 use Rattle.close.proofs.pay_lines.all_lines.Statement.{statement}
 use Rattle.close.proofs.pay_lines.all_lines.Tie as tie
 

@@ -11,8 +11,8 @@ use Rattle.rules.proofs.seat_hand.Places.{many-hands}
 use Rattle.payment.specs.Pay.{net}
 use Rattle.table.specs.Seat.{missingPlace}
 use Rattle.close_spec.specs.PayLines.{handLines}
-use Rattle.answer.specs.Settlement.{withLines}
-use Rattle.answer.proofs.Lines.{lines-none, line-counted}
+use Rattle.answer.specs.Aids.WithLines.{withLines}
+use Rattle.answer.proofs.settlement.Lines.{lines-none, line-counted}
 use Rattle.close.proofs.pay_lines.Pays.{hand-pay-small, net-kept}
 use Rattle.close.proofs.pay_lines.HandLines.{hand-line}
 use Rattle.close.proofs.pay_lines.hand_lines.Statement.{statement}

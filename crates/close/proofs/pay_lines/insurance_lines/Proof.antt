@@ -7,7 +7,7 @@ use lib.IntN.{ℤ}
 use Rattle.payment.specs.Pay.{net}
 use Rattle.close_spec.specs.PayLines.{line, insuranceKind, insuranceLines}
 use Rattle.answer.specs.Settlement.{withLine}
-use Rattle.answer.proofs.Lines.{lines-none, line-one, line-counted}
+use Rattle.answer.proofs.settlement.Lines.{lines-none, line-one, line-counted}
 use Rattle.close.proofs.pay_lines.Pays.{insurance-pay-small, net-kept}
 use Rattle.close.proofs.pay_lines.insurance_lines.Statement.{statement}
 use Rattle.close.proofs.pay_lines.insurance_lines.Tie as tie

@@ -4,7 +4,7 @@ use native.Mathlib.Omega.{arith}
 use borrow.Author.Needs.{needs}
 use Rattle.close_spec.specs.PayLines.{handLines, insuranceLines, seatLines}
 use Rattle.rules.specs.SeatHand.{handsOf}
-use Rattle.answer.proofs.Lines.{lines-more}
+use Rattle.answer.proofs.settlement.Lines.{lines-more}
 use Rattle.close.proofs.pay_lines.seat_lines.Statement.{statement}
 use Rattle.close.proofs.pay_lines.seat_lines.Tie as tie
 

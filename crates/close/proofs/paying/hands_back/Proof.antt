@@ -1,10 +1,11 @@
--- `hands_back` adds hand by hand: before each turn the sum is that of the first hands, and for each hand at most four times a stake of 32 bits goes back.
+-- `hands_back` adds hand by hand: before each turn the sum is that of the first hands, and for each hand at most four times a stake of 32 bits goes
+-- back.
 use mathlib.Core.Path.{_≡_, _∙_, ap}
 use Prim.Native.Nat.{_-_, _*_, _≤_}
 use native.Mathlib.Omega.{arith}
 use borrow.Author.Needs.{needs}
 use lib.ListN.{length, take, getD, length-map}
-use Rattle.lists.specs.Sum.{sum}
+use Rattle.lists.specs.Sum.{sumOf}
 use Rattle.rules.specs.SeatHand.{playedOf, handsOf}
 use Rattle.rules.proofs.seat_hand.Places.{none}
 use Rattle.payment.specs.declared.pay.Pay.{Pay}
@@ -16,7 +17,7 @@ use Rattle.close.proofs.paying.hands_back.Tie as tie
 
 abbrev Inv-loop : tie.InvT-loop
 Inv-loop o bank stake hands n all₀ place₀ all place =
-    (place ≤ n) × (all ≡ sum (λ h. handPay o bank stake h .back) (take place (handsOf hands))) × (all ≤ 17179869184 * place)
+    (place ≤ n) × (all ≡ sumOf (λ h. handPay o bank stake h .back) (take place (handsOf hands))) × (all ≤ 17179869184 * place)
 
 abbrev μ-loop : tie.MeasureT-loop
 μ-loop o bank stake hands n all₀ place₀ all place = n - place
@@ -25,7 +26,7 @@ used-requires : tie.Need-used-requires Inv-loop μ-loop
 used-requires c κs = search needs
 
 loop-holds : tie.Need-loop-holds Inv-loop μ-loop
-unfolding sum
+unfolding sumOf
 loop-holds c = search needs
 
 mul-h : tie.Need-mul-h Inv-loop μ-loop

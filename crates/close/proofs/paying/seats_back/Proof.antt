@@ -6,7 +6,7 @@ use native.Mathlib.Omega.{arith}
 use borrow.Author.Needs.{needs}
 use lib.ListN.{length, take, length-map}
 use lib.Seq.{take-all}
-use Rattle.lists.specs.Sum.{sum}
+use Rattle.lists.specs.Sum.{sumOf}
 use Rattle.lists.proofs.Sums.{sum-take}
 use Rattle.table.specs.Seat.{missingSeat}
 use Rattle.close_spec.specs.Close.{seatBack}
@@ -14,13 +14,13 @@ use Rattle.close.proofs.paying.seats_back.Statement.{statement}
 use Rattle.close.proofs.paying.seats_back.Tie as tie
 
 abbrev Inv-loop : tie.InvT-loop
-Inv-loop bank t o all₀ seat₀ all seat = (seat ≤ 9) × (all ≡ sum (seatBack (t .options) bank) (take seat (t .seats))) × (all ≤ 81604378624 * seat)
+Inv-loop bank t o all₀ seat₀ all seat = (seat ≤ 9) × (all ≡ sumOf (seatBack (t .options) bank) (take seat (t .seats))) × (all ≤ 81604378624 * seat)
 
 abbrev μ-loop : tie.MeasureT-loop
 μ-loop bank t o all₀ seat₀ all seat = 9 - seat
 
 loop-holds : tie.Need-loop-holds Inv-loop μ-loop
-unfolding sum
+unfolding sumOf
 loop-holds c = search needs
 
 mul-s : tie.Need-mul-s Inv-loop μ-loop
@@ -55,7 +55,7 @@ returns c =
     let start = at .before .before in
     let t = start .args .t1 in
     let full : length (t .seats) ≡ 9 = simp length-map at (start .good .0 .1 .1 .1 .1 .0 .1 .0 .1) in
-    at .loop .inv .1 ∙ ap (sum (seatBack (t .options) (start .args .bank))) (take-all (at .loop .seat) (t .seats) (omega arith))
+    at .loop .inv .1 ∙ ap (sumOf (seatBack (t .options) (start .args .bank))) (take-all (at .loop .seat) (t .seats) (omega arith))
 
 pub seats-back-spec : {M : Type 1} → statement M
 seats-back-spec =

@@ -3,7 +3,7 @@ use mathlib.Core.Path.{sym, _∙_}
 use borrow.Author.Needs.{needs}
 use Rattle.answer.proofs.outcome.Laws.{refused, accepted}
 use Rattle.close_spec.specs.Void.{voidConditions, voidEffect}
-use Rattle.close.proofs.void.Back.{void-accepted}
+use Rattle.close_spec.proofs.Void.{void-accepted}
 use Rattle.close.proofs.void.void.Statement.{statement}
 use Rattle.close.proofs.void.void.Tie as tie
 
@@ -16,7 +16,7 @@ returns c =
     refused (voidConditions t) (voidEffect t) t _ (c .before .void-number .ensures) (c .if1 .taken)
 
 voided-requires : tie.Need-voided-requires
-voided-requires c κs = void-accepted (c .before .before .args .t) (sym (c .before .void-number .ensures) ∙ c .if1 .left)
+voided-requires c κs = void-accepted (c .before .before .args .t) (sym (c .before .void-number .ensures) ∙ c .if1 .left) .sound
 
 returns-2 : tie.Need-returns-2
 returns-2 c =

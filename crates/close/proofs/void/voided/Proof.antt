@@ -1,4 +1,5 @@
--- Each part of the effect is its function's. The tray with the prizes is within the limit, and there is room for the seats' cards and then the bank's.
+-- Each part of the effect is its function's. The tray with the prizes is within the limit, and there is room for the seats' cards and then the
+-- bank's.
 use mathlib.Core.Path.{_≡_, refl, _∙_, ap}
 use native.Mathlib.Omega.{arith}
 use borrow.Author.Needs.{needs}
@@ -6,13 +7,13 @@ use lib.ListN.{length, length-map}
 use Rattle.table.specs.Table.{handCards, bankCards}
 use Rattle.table.specs.Money.{allPrizes}
 use Rattle.money.specs.declared.sums.Sums.{Sums}
-use Rattle.shoe.proofs.discards.Discards.{discard-more, room-more}
+use Rattle.close.proofs.discards.Laws.{discard-more, room-more}
 use Rattle.close.proofs.void.Back.{tray-back, room-back, void-is}
 use Rattle.close.proofs.void.voided.Statement.{statement}
 use Rattle.close.proofs.void.voided.Tie as tie
 
-void-seats-requires : tie.Need-void-seats-requires
-void-seats-requires c κs = c .pre
+ended-seats-requires : tie.Need-ended-seats-requires
+ended-seats-requires c κs = c .pre
 
 table-sums-requires : tie.Need-table-sums-requires
 table-sums-requires c κs = search needs
@@ -50,15 +51,15 @@ returns c =
     let cleared = seats-in .before in
     let summed = cleared .before .before .before in
     let t = summed .before .before .args .t in
-    void-is t (summed .before .void-seats .result) (summed .table-sums .result .prizes) (cleared .empty-hand .result) (gathered .discard-hand .result)
-    (summed .before .void-seats .ensures) (ap (λ (m : Sums). m .prizes) (summed .table-sums .ensures)) (cleared .empty-hand .ensures)
+    void-is t (summed .before .ended-seats .result) (summed .table-sums .result .prizes) (cleared .empty-hand .result) (gathered .discard-hand .result)
+    (summed .before .ended-seats .ensures) (ap (λ (m : Sums). m .prizes) (summed .table-sums .ensures)) (cleared .empty-hand .ensures)
     (gathered .discard-hand .ensures ∙ discard-more (t .shoe) (seats-in .discard-seats .result) (handCards t) (bankCards t) (seats-in .discard-seats .ensures) _ refl)
 
 pub voided-spec : {M : Type 1} → statement M
 voided-spec =
     tie.close
     (tie.spec
-    void-seats-requires
+    ended-seats-requires
     table-sums-requires
     empty-hand-requires
     discard-seats-requires

@@ -7,7 +7,7 @@ use lib.ListN.{length, take}
 use lib.Seq.{sets, length-take-le}
 use Rattle.table.specs.Shoe.{leftOf}
 use Rattle.shoe.proofs.Left.{left-length, left-at}
-use Rattle.shoe.proofs.discards.Discards.{card-next, discard-stored}
+use Rattle.shoe.proofs.Discards.{card-next, discard-stored}
 use Rattle.deal.proofs.burn.burn.Statement.{statement}
 use Rattle.deal.proofs.burn.burn.Tie as tie
 

@@ -5,7 +5,7 @@ use native.Mathlib.Omega.{arith}
 use borrow.Author.Needs.{needs}
 use lib.ListN.{length, take, length-map}
 use lib.Seq.{take-all}
-use Rattle.lists.specs.Sum.{sum}
+use Rattle.lists.specs.Sum.{sumOf}
 use Rattle.table.specs.Table.{seatAt}
 use Rattle.deal_spec.specs.Deal.{stakedSeats}
 use Rattle.deal.proofs.pass.Next.{one-most, staked-next}
@@ -19,7 +19,7 @@ abbrev μ-loop : tie.MeasureT-loop
 μ-loop t n₀ i₀ n i = 9 - i
 
 loop-holds : tie.Need-loop-holds Inv-loop μ-loop
-unfolding sum
+unfolding sumOf
 loop-holds c = search needs
 
 mul-s : tie.Need-mul-s Inv-loop μ-loop

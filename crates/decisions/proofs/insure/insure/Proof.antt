@@ -1,14 +1,13 @@
 -- The number decides: the table as it was, or the effect; an accepted call's seat is one of the nine, and its amount fits.
 use mathlib.Core.Path.{_≡_, sym, ap, _∙_}
-use Prim.Native.Nat.{_-_}
 use native.Mathlib.Omega.{arith}
 use borrow.Author.Needs.{needs}
-use Rattle.table.specs.declared.Seat.{Seat}
-use Rattle.table.specs.Seat.{purse, stake, makeSeat, money}
-use Rattle.table.specs.Table.{seatAt, withSeat}
+use Rattle.table.specs.Seat.{purse, stake}
+use Rattle.table.specs.Table.{seatAt}
+use Rattle.table.proofs.Facts.{insurance-most}
 use Rattle.answer.proofs.outcome.Laws.{refused, accepted}
-use Rattle.decision_spec.specs.Insure.{insureConditions, insureEffect}
-use Rattle.decisions.proofs.insure.Accepted.{insure-accepted}
+use Rattle.decisions_spec.specs.Insure.{insureConditions, insureEffect}
+use Rattle.decisions_spec.proofs.Insure.{insure-accepted}
 use Rattle.decisions.proofs.insure.insure.Statement.{statement}
 use Rattle.decisions.proofs.insure.insure.Tie as tie
 
@@ -28,16 +27,16 @@ cast-j c = search needs
 seat-at-requires : tie.Need-seat-at-requires
 seat-at-requires c κs =
     let start = c .before .before .before in
-    insure-accepted (start .args .t) (start .args .at .seat) (start .args .n) (sym (c .before .before .insure-number .ensures) ∙ c .before .if1 .left) .0
+    insure-accepted (start .args .t) (start .args .at .seat) (start .args .n) (sym (c .before .before .insure-number .ensures) ∙ c .before .if1 .left) .acting .nine
 
 insured-requires : tie.Need-insured-requires
 insured-requires c κs =
     let start = c .before .before .before .before in
     let s = seatAt (start .args .t) (start .args .at .seat) in
-    let facts = insure-accepted (start .args .t) (start .args .at .seat) (start .args .n) (sym (c .before .before .before .insure-number .ensures) ∙ c .before .before .if1 .left) in
+    let a = insure-accepted (start .args .t) (start .args .at .seat) (start .args .n) (sym (c .before .before .before .insure-number .ensures) ∙ c .before .before .if1 .left) in
     let same-purse : purse (c .seat-at .result) ≡ purse s = ap purse (c .seat-at .ensures) in
     let same-stake : stake (c .seat-at .result) ≡ stake s = ap stake (c .seat-at .ensures) in
-    (omega (arith, facts .1), omega (arith, facts .2))
+    (omega (arith, a .enough), omega (arith, insurance-most (start .args .t .options) (stake s) (start .args .n) (a .permitted)))
 
 with-seat-requires : tie.Need-with-seat-requires
 with-seat-requires c κs = search needs
@@ -49,10 +48,8 @@ returns-2 c =
     let t = start .args .t in
     let j = start .args .at .seat in
     let n = start .args .n in
-    let next : c .before .insured .result ≡ makeSeat (money (purse (seatAt t j) - n) (stake (seatAt t j)) n) (seatAt t j .hands)
-    = c .before .insured .ensures ∙ ap (λ (s : Seat). makeSeat (money (purse s - n) (stake s) n) (s .hands)) (c .before .before .seat-at .ensures) in
     accepted (insureConditions t j n) (insureEffect t j n) t _ _ (c .before .before .before .before .before .insure-number .ensures) (c .before .before .before .before .if1 .left)
-    (c .with-seat .ensures ∙ ap (withSeat t j) next)
+    (simp (c .with-seat .ensures, c .before .insured .ensures, c .before .before .seat-at .ensures))
 
 pub insure-spec : {M : Type 1} → statement M
 insure-spec =

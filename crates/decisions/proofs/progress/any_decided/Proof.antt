@@ -3,11 +3,11 @@ use mathlib.Core.Path.{_∙_}
 use mathlib.Core.Bool.{true}
 use lib.Dec.{ltb}
 use borrow.Author.Needs.{needs}
-use Rattle.lists.specs.Tests.{any}
+use Rattle.lists.specs.Tests.{anyOf}
 use Rattle.rules.specs.SeatHand.{Played}
 use Rattle.rules.specs.Drew.{seatDrew}
 use Rattle.table.specs.Table.{seatsHands}
-use Rattle.decision_spec.specs.Round.{anyDrew, anyDecided}
+use Rattle.decisions_spec.specs.Progress.{anyDrew, anyDecided}
 use Rattle.decisions.proofs.progress.Both.{any-both}
 use Rattle.decisions.proofs.progress.any_decided.Statement.{statement}
 use Rattle.decisions.proofs.progress.any_decided.Tie as tie
@@ -17,7 +17,7 @@ some-acted-requires c κs = search needs
 
 returns : tie.Need-returns
 unfolding anyDrew anyDecided
-returns c = c .some-acted .ensures ∙ any-both seatDrew (any (λ (h : Played). ltb 0 (h .ended))) true (seatsHands (c .before .args .t))
+returns c = c .some-acted .ensures ∙ any-both seatDrew (anyOf (λ (h : Played). ltb 0 (h .ended))) true (seatsHands (c .before .args .t))
 
 pub any-decided-spec : {M : Type 1} → statement M
 any-decided-spec = tie.close (tie.spec some-acted-requires returns)

@@ -3,11 +3,11 @@ use mathlib.Core.Path.{_∙_}
 use mathlib.Core.Bool.{false, or-false}
 use lib.Dec.{ltb}
 use borrow.Author.Needs.{needs}
-use Rattle.lists.specs.Tests.{any}
+use Rattle.lists.specs.Tests.{anyOf}
 use Rattle.rules.specs.SeatHand.{Played}
 use Rattle.rules.specs.Drew.{seatDrew}
 use Rattle.table.specs.Table.{seatsHands}
-use Rattle.decision_spec.specs.Round.{anyDrew}
+use Rattle.decisions_spec.specs.Progress.{anyDrew}
 use Rattle.decisions.proofs.progress.Both.{any-both}
 use Rattle.decisions.proofs.progress.any_drew.Statement.{statement}
 use Rattle.decisions.proofs.progress.any_drew.Tie as tie
@@ -19,7 +19,7 @@ returns : tie.Need-returns
 unfolding anyDrew
 returns c =
     let hands = seatsHands (c .before .args .t) in
-    c .some-acted .ensures ∙ any-both seatDrew (any (λ (h : Played). ltb 0 (h .ended))) false hands ∙ or-false (any seatDrew hands)
+    c .some-acted .ensures ∙ any-both seatDrew (anyOf (λ (h : Played). ltb 0 (h .ended))) false hands ∙ or-false (anyOf seatDrew hands)
 
 pub any-drew-spec : {M : Type 1} → statement M
 any-drew-spec = tie.close (tie.spec some-acted-requires returns)

@@ -7,7 +7,7 @@ use native.Mathlib.Omega.{arith}
 use borrow.Author.Needs.{needs}
 use lib.ListN.{length, take, length-map}
 use lib.Seq.{take-all}
-use Rattle.lists.specs.Tests.{any}
+use Rattle.lists.specs.Tests.{anyOf}
 use Rattle.lists.proofs.Tests.{any-at}
 use Rattle.table.specs.Table.{seatsHands}
 use Rattle.state.proofs.turn.Hands.{hands-of, nine-seats, seat-passed}
@@ -16,13 +16,13 @@ use Rattle.decisions.proofs.progress.some_acted.Statement.{statement}
 use Rattle.decisions.proofs.progress.some_acted.Tie as tie
 
 abbrev Inv-loop : tie.InvT-loop
-Inv-loop ends t i₀ i = (i ≤ 9) × (any (acted ends) (take i (seatsHands t)) ≡ false)
+Inv-loop ends t i₀ i = (i ≤ 9) × (anyOf (acted ends) (take i (seatsHands t)) ≡ false)
 
 abbrev μ-loop : tie.MeasureT-loop
 μ-loop ends t i₀ i = 9 - i
 
 loop-holds : tie.Need-loop-holds Inv-loop μ-loop
-unfolding any
+unfolding anyOf
 loop-holds c = search needs
 
 mul-s : tie.Need-mul-s Inv-loop μ-loop

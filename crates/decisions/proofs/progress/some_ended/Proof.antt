@@ -9,7 +9,7 @@ use borrow.Author.Tests.{lt-ltb, le-ltb}
 use lib.Dec.{ltb}
 use lib.ListN.{length, take, length-map}
 use lib.Seq.{take-all}
-use Rattle.lists.specs.Tests.{any}
+use Rattle.lists.specs.Tests.{anyOf}
 use Rattle.lists.proofs.Tests.{any-take, any-at}
 use Rattle.rules.specs.SeatHand.{Played, playedOf, handsOf}
 use Rattle.rules.proofs.seat_hand.Places.{none, many-hands, hand-at}
@@ -17,7 +17,7 @@ use Rattle.decisions.proofs.progress.some_ended.Statement.{statement}
 use Rattle.decisions.proofs.progress.some_ended.Tie as tie
 
 abbrev Inv-loop : tie.InvT-loop
-Inv-loop s n i₀ i = (i ≤ n) × (any (λ h. ltb 0 (h .ended)) (take i (handsOf s)) ≡ false)
+Inv-loop s n i₀ i = (i ≤ n) × (anyOf (λ h. ltb 0 (h .ended)) (take i (handsOf s)) ≡ false)
 
 abbrev μ-loop : tie.MeasureT-loop
 μ-loop s n i₀ i = n - i
@@ -26,7 +26,7 @@ used-requires : tie.Need-used-requires Inv-loop μ-loop
 used-requires c κs = search needs
 
 loop-holds : tie.Need-loop-holds Inv-loop μ-loop
-unfolding any
+unfolding anyOf
 loop-holds c = search needs
 
 mul-h : tie.Need-mul-h Inv-loop μ-loop

@@ -2,8 +2,8 @@
 use mathlib.Core.Path.{sym, _∙_}
 use borrow.Author.Needs.{needs}
 use Rattle.answer.proofs.outcome.Laws.{refused, accepted}
-use Rattle.decision_spec.specs.Surrender.{surrenderConditions, surrenderEffect}
-use Rattle.decisions.proofs.surrender.Asked.{surrender-nine}
+use Rattle.decisions_spec.specs.Surrender.{surrenderConditions, surrenderEffect}
+use Rattle.decisions_spec.proofs.Surrender.{surrender-accepted}
 use Rattle.decisions.proofs.surrender.surrender.Statement.{statement}
 use Rattle.decisions.proofs.surrender.surrender.Tie as tie
 
@@ -19,7 +19,7 @@ returns c =
 surrendered-requires : tie.Need-surrendered-requires
 surrendered-requires c κs =
     let start = c .before .before in
-    surrender-nine (start .args .t) (start .args .at .seat) (sym (c .before .surrender-number .ensures) ∙ c .if1 .left)
+    surrender-accepted (start .args .t) (start .args .at .seat) (sym (c .before .surrender-number .ensures) ∙ c .if1 .left) .acting .nine
 
 returns-2 : tie.Need-returns-2
 returns-2 c =

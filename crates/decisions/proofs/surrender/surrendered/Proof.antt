@@ -1,11 +1,6 @@
 -- The seat is read, its first hand is ended, and the seat goes back in its place.
-use mathlib.Core.Path.{_∙_, ap}
 use borrow.Author.Needs.{needs}
-use Rattle.rules.specs.SeatHand.{bySurrender}
-use Rattle.table.specs.declared.Seat.{Seat}
-use Rattle.table.specs.Table.{withSeat}
-use Rattle.decision_spec.specs.Round.{placeOf, withPlace, endedBy}
-use Rattle.decision_spec.specs.Surrender.{surrenderEffect}
+use Rattle.decisions_spec.specs.Surrender.{surrenderEffect}
 use Rattle.decisions.proofs.surrender.surrendered.Statement.{statement}
 use Rattle.decisions.proofs.surrender.surrendered.Tie as tie
 
@@ -23,11 +18,7 @@ with-seat-requires c κs = search needs
 
 returns : tie.Need-returns
 unfolding surrenderEffect
-returns c =
-    let start = c .before .before .before .before in
-    c .with-seat .ensures
-    ∙ ap (withSeat (start .args .t) (start .args .at .seat))
-    (c .before .surrendered-seat .ensures ∙ ap (λ (s : Seat). withPlace s 0 (endedBy (placeOf s 0) bySurrender)) (c .before .before .seat-at .ensures))
+returns c = simp (c .with-seat .ensures, c .before .surrendered-seat .ensures, c .before .before .seat-at .ensures)
 
 pub surrendered-spec : {M : Type 1} → statement M
 surrendered-spec = tie.close (tie.spec cast-j seat-at-requires surrendered-seat-requires with-seat-requires returns)

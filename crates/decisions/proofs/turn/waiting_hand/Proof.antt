@@ -3,8 +3,8 @@ use mathlib.Core.Path.{_≡_, ap}
 use native.Mathlib.Omega.{arith}
 use borrow.Author.Needs.{needs}
 use lib.ListN.{length, length-map}
-use Rattle.decision_spec.specs.Round.{placeOf}
-use Rattle.decisions.proofs.turn.InTurn.{place-of-four}
+use Rattle.decisions_spec.specs.Place.{placeOf}
+use Rattle.decisions.proofs.turn.Laws.{place-of-four}
 use Rattle.decisions.proofs.turn.waiting_hand.Statement.{statement}
 use Rattle.decisions.proofs.turn.waiting_hand.Tie as tie
 

@@ -1,9 +1,9 @@
 -- The number decides: the table as it was, or the effect, for which the accepted call gives what it asks.
-use mathlib.Core.Path.{_≡_, sym, _∙_}
+use mathlib.Core.Path.{sym, _∙_}
 use borrow.Author.Needs.{needs}
-use lib.ListN.{length, length-map}
 use Rattle.answer.proofs.outcome.Laws.{refused, accepted}
-use Rattle.decision_spec.specs.Split.{splitConditions, splitEffect}
+use Rattle.decisions_spec.specs.Split.{splitConditions, splitEffect}
+use Rattle.decisions_spec.proofs.Split.{split-accepted}
 use Rattle.draw.proofs.split.Accepted.{splits}
 use Rattle.draw.proofs.split.split.Statement.{statement}
 use Rattle.draw.proofs.split.split.Tie as tie
@@ -20,9 +20,7 @@ returns c =
 split-table-requires : tie.Need-split-table-requires
 split-table-requires c κs =
     let start = c .before .before in
-    let t = start .args .t in
-    let full : length (t .seats) ≡ 9 = simp length-map at (start .good .0 .1 .1 .1 .1 .0 .1 .0 .1) in
-    splits t (start .args .at .seat) full (sym (c .before .split-number .ensures) ∙ c .if1 .left)
+    splits _ _ (split-accepted (start .args .t) (start .args .at .seat) (sym (c .before .split-number .ensures) ∙ c .if1 .left))
 
 returns-2 : tie.Need-returns-2
 returns-2 c =

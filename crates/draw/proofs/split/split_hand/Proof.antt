@@ -1,9 +1,6 @@
 -- The kept card first and the drawn one behind it; the kept card says where the hand comes from.
-use mathlib.Core.Path.{_≡_, sym, _∙_, ap}
+use mathlib.Core.Path.{sym, _∙_}
 use borrow.Author.Needs.{needs}
-use Rattle.cards.specs.declared.hand.Hand.{Hand}
-use Rattle.cards.specs.Hand.{emptyHand, withCard}
-use Rattle.rules.specs.SeatHand.{split, splitAces, notEnded}
 use Rattle.draw.proofs.split.split_hand.Statement.{statement}
 use Rattle.draw.proofs.split.split_hand.Tie as tie
 
@@ -22,20 +19,12 @@ is-ace-requires c κs = search needs
 returns : tie.Need-returns
 returns c =
     let two = c .before .before in
-    let kept = two .before .before .before .args .kept in
-    let card = two .before .before .before .args .card in
-    let hand : two .with-card2 .result ≡ withCard (withCard emptyHand kept) card =
-    two .with-card2 .ensures ∙ ap (λ (h : Hand). withCard h card) (two .before .with-card .ensures ∙ ap (λ (h : Hand). withCard h kept) (two .before .before .empty-hand .ensures)) in
-    rw (sym (c .before .is-ace .ensures) ∙ c .if1 .taken) (ap (λ (h : Hand). record { hand = h; origin = splitAces; ended = notEnded }) hand)
+    simp (two .with-card2 .ensures, two .before .with-card .ensures, two .before .before .empty-hand .ensures, sym (c .before .is-ace .ensures) ∙ c .if1 .taken)
 
 returns-2 : tie.Need-returns-2
 returns-2 c =
     let two = c .before .before in
-    let kept = two .before .before .before .args .kept in
-    let card = two .before .before .before .args .card in
-    let hand : two .with-card2 .result ≡ withCard (withCard emptyHand kept) card =
-    two .with-card2 .ensures ∙ ap (λ (h : Hand). withCard h card) (two .before .with-card .ensures ∙ ap (λ (h : Hand). withCard h kept) (two .before .before .empty-hand .ensures)) in
-    rw (sym (c .before .is-ace .ensures) ∙ c .if1 .left) (ap (λ (h : Hand). record { hand = h; origin = split; ended = notEnded }) hand)
+    simp (two .with-card2 .ensures, two .before .with-card .ensures, two .before .before .empty-hand .ensures, sym (c .before .is-ace .ensures) ∙ c .if1 .left)
 
 pub split-hand-spec : {M : Type 1} → statement M
 split-hand-spec =

@@ -1,16 +1,11 @@
--- The conditions in turn are asked first; where none holds a hand of the seat waits, and those of the pair are asked of it.
-use mathlib.Core.Path.{_≡_, sym, _∙_, ap}
-use mathlib.Core.Bool.{true, false}
-use Prim.Native.Nat.{ℕ}
-use borrow.Author.Needs.{needs}
-use borrow.Author.Tests.{lt-ltb, le-ltb}
-use lib.Dec.{ltb}
+-- The conditions in turn are asked first; where none holds a hand of the seat waits, and the pair is asked of it, then its seat and the shoe.
+use mathlib.Core.Path.{_≡_, sym, _∙_}
 use lib.ListN.{length, length-map}
-use Rattle.call.proofs.Refusals.{first-before}
-use Rattle.decision_spec.specs.Turn.{turnConditions}
-use Rattle.decision_spec.specs.Split.{splitConditions}
-use Rattle.decisions.proofs.turn.InTurn.{in-turn-alone, read-waits}
-use Rattle.draw.proofs.split.Accepted.{split-pair, split-cards}
+use borrow.Author.Needs.{needs}
+use Rattle.call.specs.Refusal.{first}
+use Rattle.rules.proofs.seat_hand.Places.{many-hands}
+use Rattle.decisions_spec.specs.Split.{splitConditions}
+use Rattle.decisions.proofs.turn.Laws.{turn-refuses, turn-passes, turn-comes, read-waits}
 use Rattle.draw.proofs.split.split_number.Statement.{statement}
 use Rattle.draw.proofs.split.split_number.Tie as tie
 
@@ -19,59 +14,72 @@ turn-number-requires c κs = search needs
 
 returns : tie.Need-returns
 unfolding splitConditions
-returns c =
-    let start = c .before .before in
-    sym (first-before (turnConditions (start .args .t) (start .args .at .seat)) _ _ (sym (c .before .turn-number .ensures)) (c .if1 .taken))
+returns c = turn-refuses _ _ _ (c .before .turn-number .ensures) (c .if1 .taken) _
 
 cast-seat-at : tie.Need-cast-seat-at
 cast-seat-at c = search needs
 
 seat-at-requires : tie.Need-seat-at-requires
-seat-at-requires c κs =
-    let start = c .before .before .before .before in
-    let t = start .args .t in
-    let full : length (t .seats) ≡ 9 = simp length-map at (start .good .0 .1 .1 .1 .1 .0 .1 .0 .1) in
-    in-turn-alone t (start .args .at .seat) full (sym (c .before .before .before .turn-number .ensures) ∙ c .before .before .if1 .left) .nine
+seat-at-requires c κs = turn-comes _ _ _ (c .before .before .before .turn-number .ensures) (c .before .before .if1 .left) .nine
 
 up-requires : tie.Need-up-requires
 up-requires c κs = search needs
 
-pair-number-requires : tie.Need-pair-number-requires
-pair-number-requires c κs =
-    let start = c .before .before .before .before .before .before in
-    let t = start .args .t in
-    let j = start .args .at .seat in
-    let full : length (t .seats) ≡ 9 = simp length-map at (start .good .0 .1 .1 .1 .1 .0 .1 .0 .1) in
-    let turn = in-turn-alone t j full (sym (c .before .before .before .before .before .turn-number .ensures) ∙ c .before .before .before .before .if1 .left) in
-    read-waits t j _ _ turn (c .up .ensures) (c .before .seat-at .ensures)
+waiting-hand-requires : tie.Need-waiting-hand-requires
+waiting-hand-requires c κs =
+    let seat = c .before .before .before in
+    let passed = seat .before .before .before in
+    let turn = turn-comes _ _ _ (passed .before .turn-number .ensures) (passed .if1 .left) in
+    read-waits _ _ _ _ turn (c .up .ensures) (seat .seat-at .ensures)
 
-returns-2 : tie.Need-returns-2
-returns-2 c =
-    let read = c .before .before in
-    let start = read .before .before .before .before .before .before in
-    let turn = sym (read .before .before .before .before .before .turn-number .ensures) ∙ read .before .before .before .before .if1 .left in
-    split-pair (start .args .t) (start .args .at .seat) _ _ (read .up .ensures) (read .before .seat-at .ensures) _ (c .before .pair-number .ensures) turn (c .if2 .taken)
+cast-most : tie.Need-cast-most
+cast-most c = search needs
+
+cast-stake : tie.Need-cast-stake
+cast-stake c = search needs
+
+is-pair-requires : tie.Need-is-pair-requires
+is-pair-requires c κs = search needs
+
+used-requires : tie.Need-used-requires
+used-requires c κs = search needs
 
 cards-left-requires : tie.Need-cards-left-requires
 cards-left-requires c κs = search needs
 
-returns-3 : tie.Need-returns-3
-returns-3 c =
-    let asked = c .before .before in
-    let read = asked .before .before in
-    let start = read .before .before .before .before .before .before in
-    let turn = sym (read .before .before .before .before .before .turn-number .ensures) ∙ read .before .before .before .before .if1 .left in
-    split-cards (start .args .t) (start .args .at .seat) _ _ (read .up .ensures) (read .before .seat-at .ensures) _ (asked .before .pair-number .ensures) turn true (asked .if2 .left)
-    (ap (λ (n : ℕ). ltb n 2) (sym (c .before .cards-left .ensures)) ∙ lt-ltb _ _ (c .if3 .taken))
+asked-requires : tie.Need-asked-requires
+asked-requires c κs = search needs
 
-returns-4 : tie.Need-returns-4
-returns-4 c =
-    let asked = c .before .before in
-    let read = asked .before .before in
-    let start = read .before .before .before .before .before .before in
-    let turn = sym (read .before .before .before .before .before .turn-number .ensures) ∙ read .before .before .before .before .if1 .left in
-    split-cards (start .args .t) (start .args .at .seat) _ _ (read .up .ensures) (read .before .seat-at .ensures) _ (asked .before .pair-number .ensures) turn false (asked .if2 .left)
-    (ap (λ (n : ℕ). ltb n 2) (sym (c .before .cards-left .ensures)) ∙ le-ltb _ _ (c .if3 .left))
+asked-requires-2 : tie.Need-asked-requires-2
+asked-requires-2 c κs = search needs
+
+asked-requires-3 : tie.Need-asked-requires-3
+asked-requires-3 c κs = search needs
+
+asked-requires-4 : tie.Need-asked-requires-4
+asked-requires-4 c κs = search needs
+
+returns-2 : tie.Need-returns-2
+unfolding splitConditions first
+returns-2 c =
+    let tests = c .before .before .before .before in
+    let hand = tests .before .before .before .before .before .before .before in
+    let seat = hand .before .before .before .before in
+    let passed = seat .before .before .before in
+    let full : length (seat .seat-at .result .hands .places) ≡ 4 = simp length-map at (seat .seat-at .ok .1 .1 .1 .0 .1 .1 .0 .1 .0 .1) in
+    let many = tests .before .before .used .ensures ∙ sym (many-hands (seat .seat-at .result .hands) full) in
+    (simp (
+      c .asked4 .ensures,
+      c .before .asked3 .ensures,
+      c .before .before .asked2 .ensures,
+      c .before .before .before .asked .ensures,
+      tests .cards-left .ensures,
+      many,
+      tests .before .before .before .is-pair .ensures,
+      hand .waiting-hand .ensures,
+      hand .before .up .ensures,
+      seat .seat-at .ensures,
+    )) ∙ sym (turn-passes _ _ _ (passed .before .turn-number .ensures) (passed .if1 .left) _)
 
 pub split-number-spec : {M : Type 1} → statement M
 split-number-spec =
@@ -82,8 +90,14 @@ split-number-spec =
     cast-seat-at
     seat-at-requires
     up-requires
-    pair-number-requires
-    returns-2
+    waiting-hand-requires
+    cast-most
+    cast-stake
+    is-pair-requires
+    used-requires
     cards-left-requires
-    returns-3
-    returns-4)
+    asked-requires
+    asked-requires-2
+    asked-requires-3
+    asked-requires-4
+    returns-2)

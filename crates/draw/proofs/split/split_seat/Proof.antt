@@ -3,8 +3,8 @@ use mathlib.Core.Path.{_≡_}
 use native.Mathlib.Omega.{arith}
 use borrow.Author.Needs.{needs}
 use lib.ListN.{length, length-map}
-use Rattle.decisions.proofs.turn.InTurn.{place-of-four}
-use Rattle.draw.proofs.split.Effect.{same-kept, same-two}
+use Rattle.decisions.proofs.turn.Laws.{place-of-four}
+use Rattle.draw.proofs.split.Effect.{same-two}
 use Rattle.draw.proofs.split.split_seat.Statement.{statement}
 use Rattle.draw.proofs.split.split_seat.Tie as tie
 
@@ -52,11 +52,11 @@ returns c =
     let made = put .before in
     let hand = made .before .before .before .before .before in
     let start = hand .before .before .before .before .before in
-    let h = hand .waiting-hand .result in
-    let parent = same-kept h 0 _ _ _ (made .before .before .before .kept-card .ensures) (made .before .before .split-hand .ensures) in
-    let new = same-kept h 1 _ _ _ (made .before .kept-card2 .ensures) (made .split-hand2 .ensures) in
-    same-two (start .args .s) _ _ _ _ h _ _ _ (start .args .first) (start .args .second)
-    (c .with-purse .ensures) (put .split-places .ensures) parent new (hand .before .waiting-place .ensures) (hand .waiting-hand .ensures)
+    same-two (start .args .s) (start .args .first) (start .args .second)
+    (c .with-purse .ensures) (put .split-places .ensures)
+    (made .before .before .split-hand .ensures) (made .before .before .before .kept-card .ensures)
+    (made .split-hand2 .ensures) (made .before .kept-card2 .ensures)
+    (hand .before .waiting-place .ensures) (hand .waiting-hand .ensures)
 
 pub split-seat-spec : {M : Type 1} → statement M
 split-seat-spec =

@@ -2,7 +2,7 @@
 use mathlib.Core.Path.{_≡_, sym}
 use borrow.Author.Needs.{needs}
 use lib.ListN.{length, length-map}
-use Rattle.draw.proofs.split.Accepted.{read-pays, read-split}
+use Rattle.draw.proofs.split.Accepted.{read-pays}
 use Rattle.draw.proofs.split.Effect.{same-effect}
 use Rattle.draw.proofs.split.split_table.Statement.{statement}
 use Rattle.draw.proofs.split.split_table.Tie as tie
@@ -45,12 +45,11 @@ with-seat-requires c κs = search needs
 
 returns : tie.Need-returns
 returns c =
-    let read = c .before .before .before .before .before .before .before .before .before in
+    let drawn = c .before .before .before .before .before in
+    let read = drawn .before .before .before .before in
     let start = read .before .before .before .before in
-    let t = start .args .t in
-    let j = start .args .at .seat in
-    let next = read-split t j _ _ (read .up .ensures) (read .before .seat-at .ensures) _ _ _ (c .before .before .split-seat .ensures) in
-    same-effect t j _ _ _ _ _ next (c .before .before .before .before .before .card-ahead .ensures) (c .before .before .before .card-ahead2 .ensures) (c .with-seat .ensures) (c .before .with-drawn .ensures)
+    same-effect (start .args .t) (start .args .at .seat) (c .with-seat .ensures) (c .before .with-drawn .ensures) (c .before .before .split-seat .ensures)
+    (drawn .card-ahead .ensures) (c .before .before .before .card-ahead2 .ensures) (read .up .ensures) (read .before .seat-at .ensures)
 
 pub split-table-spec : {M : Type 1} → statement M
 split-table-spec =

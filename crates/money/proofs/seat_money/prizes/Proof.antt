@@ -4,7 +4,7 @@ use Prim.Native.Nat.{_-_, _*_, _≤_}
 use native.Mathlib.Omega.{arith}
 use borrow.Author.Needs.{needs}
 use lib.ListN.{length, take, getD, length-map}
-use Rattle.lists.specs.Sum.{sum}
+use Rattle.lists.specs.Sum.{sumOf}
 use Rattle.rules.specs.SeatHand.{playedOf, handsOf}
 use Rattle.rules.proofs.seat_hand.Places.{none}
 use Rattle.payment.specs.Prize.{prize}
@@ -15,7 +15,7 @@ use Rattle.money.proofs.seat_money.prizes.Statement.{statement}
 use Rattle.money.proofs.seat_money.prizes.Tie as tie
 
 abbrev Inv-loop : tie.InvT-loop
-Inv-loop o stake hands n won₀ i₀ won i = (i ≤ n) × (won ≡ sum (prize o stake) (take i (handsOf hands))) × (won ≤ 12884901888 * i)
+Inv-loop o stake hands n won₀ i₀ won i = (i ≤ n) × (won ≡ sumOf (prize o stake) (take i (handsOf hands))) × (won ≤ 12884901888 * i)
 
 abbrev μ-loop : tie.MeasureT-loop
 μ-loop o stake hands n won₀ i₀ won i = n - i
@@ -24,7 +24,7 @@ used-requires : tie.Need-used-requires Inv-loop μ-loop
 used-requires c κs = search needs
 
 loop-holds : tie.Need-loop-holds Inv-loop μ-loop
-unfolding sum
+unfolding sumOf
 loop-holds c = search needs
 
 mul-h : tie.Need-mul-h Inv-loop μ-loop

@@ -4,7 +4,7 @@ use Prim.Native.Nat.{_-_, _*_, _≤_}
 use native.Mathlib.Omega.{arith}
 use borrow.Author.Needs.{needs}
 use lib.ListN.{length, take, getD, length-map}
-use Rattle.lists.specs.Sum.{sum}
+use Rattle.lists.specs.Sum.{sumOf}
 use Rattle.rules.specs.SeatHand.{playedOf, handsOf}
 use Rattle.rules.proofs.seat_hand.Places.{none}
 use Rattle.payment.specs.Wager.{wager}
@@ -14,7 +14,7 @@ use Rattle.money.proofs.seat_money.wagers.Statement.{statement}
 use Rattle.money.proofs.seat_money.wagers.Tie as tie
 
 abbrev Inv-loop : tie.InvT-loop
-Inv-loop stake hands n all₀ i₀ all i = (i ≤ n) × (all ≡ sum (wager stake) (take i (handsOf hands))) × (all ≤ 8589934592 * i)
+Inv-loop stake hands n all₀ i₀ all i = (i ≤ n) × (all ≡ sumOf (wager stake) (take i (handsOf hands))) × (all ≤ 8589934592 * i)
 
 abbrev μ-loop : tie.MeasureT-loop
 μ-loop stake hands n all₀ i₀ all i = n - i
@@ -23,7 +23,7 @@ used-requires : tie.Need-used-requires Inv-loop μ-loop
 used-requires c κs = search needs
 
 loop-holds : tie.Need-loop-holds Inv-loop μ-loop
-unfolding sum
+unfolding sumOf
 loop-holds c = search needs
 
 mul-h : tie.Need-mul-h Inv-loop μ-loop

@@ -5,7 +5,7 @@ use native.Mathlib.Omega.{arith}
 use borrow.Author.Needs.{needs}
 use lib.ListN.{length, take, getD, length-map}
 use lib.Seq.{take-all}
-use Rattle.lists.specs.Sum.{sum}
+use Rattle.lists.specs.Sum.{sumOf}
 use Rattle.table.specs.Seat.{missingSeat}
 use Rattle.money.specs.Sums.{sumsOver, seatSums}
 use Rattle.money.specs.SumsFit.{SumsFit}
@@ -20,7 +20,7 @@ abbrev μ-loop : tie.MeasureT-loop
 μ-loop o all₀ seats i₀ all i = 9 - i
 
 loop-holds : tie.Need-loop-holds Inv-loop μ-loop
-unfolding sum
+unfolding sumOf
 loop-holds c = search needs
 
 mul-s : tie.Need-mul-s Inv-loop μ-loop

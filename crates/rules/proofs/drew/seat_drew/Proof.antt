@@ -5,7 +5,7 @@ use Prim.Native.Nat.{min}
 use native.Mathlib.Omega.{arith}
 use lib.ListN.{length, length-map}
 use borrow.Author.Tests.{lt-ltb}
-use Rattle.lists.specs.Tests.{any}
+use Rattle.lists.specs.Tests.{anyOf}
 use Rattle.lists.proofs.Takes.{take-one}
 use Rattle.lists.proofs.Tests.{any-one}
 use Rattle.rules.proofs.seat_hand.Places.{none, many-hands}
@@ -25,7 +25,7 @@ returns c =
     simp (many-hands s full, lt-ltb 1 (min (s .many) 4) (omega arith))
 
 returns-2 : tie.Need-returns-2
-unfolding seatDrew any
+unfolding seatDrew anyOf
 returns-2 c =
     let s = c .before .before .before .args .t1 in
     let empty : s .many ≡ 0 = omega arith in

@@ -7,7 +7,7 @@ use native.Mathlib.Omega.{arith}
 use borrow.Author.Needs.{needs}
 use lib.ListN.{length, take, length-map}
 use lib.Seq.{take-all}
-use Rattle.lists.specs.Tests.{any}
+use Rattle.lists.specs.Tests.{anyOf}
 use Rattle.lists.proofs.Tests.{any-take, first-here, first-none}
 use Rattle.rules.specs.SeatHand.{playedOf, handsOf}
 use Rattle.rules.specs.Waits.{waits}
@@ -16,7 +16,7 @@ use Rattle.rules.proofs.turn.waiting_place.Statement.{statement}
 use Rattle.rules.proofs.turn.waiting_place.Tie as tie
 
 abbrev Inv-loop : tie.InvT-loop
-Inv-loop o up s n i₀ i = (i ≤ n) × (any (waits o up n) (take i (handsOf s)) ≡ false)
+Inv-loop o up s n i₀ i = (i ≤ n) × (anyOf (waits o up n) (take i (handsOf s)) ≡ false)
 
 abbrev μ-loop : tie.MeasureT-loop
 μ-loop o up s n i₀ i = n - i
@@ -25,7 +25,7 @@ used-requires : tie.Need-used-requires Inv-loop μ-loop
 used-requires c κs = search needs
 
 loop-holds : tie.Need-loop-holds Inv-loop μ-loop
-unfolding any
+unfolding anyOf
 loop-holds c = search needs
 
 mul-h : tie.Need-mul-h Inv-loop μ-loop

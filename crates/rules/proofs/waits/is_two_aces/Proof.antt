@@ -4,7 +4,7 @@ use mathlib.Core.Bool.{and-true}
 use native.Mathlib.Omega.{arith}
 use lib.ListN.{length}
 use borrow.Author.Tests.{ne-eqb, not-true, not-false}
-use Rattle.lists.specs.Tests.{all}
+use Rattle.lists.specs.Tests.{allOf}
 use Rattle.lists.proofs.Takes.{count-taken, take-two}
 use Rattle.rules.specs.Waits.{isTwoAces}
 use borrow.Author.Needs.{needs}
@@ -28,7 +28,7 @@ is-ace-requires : tie.Need-is-ace-requires
 is-ace-requires c κs = search needs
 
 returns-2 : tie.Need-returns-2
-unfolding isTwoAces all
+unfolding isTwoAces allOf
 returns-2 c =
     let h = c .before .before .before .before .before .args .t1 in
     let full : length (h .cards) ≡ 20 = search needs in
@@ -38,7 +38,7 @@ is-ace-requires-2 : tie.Need-is-ace-requires-2
 is-ace-requires-2 c κs = search needs
 
 returns-3 : tie.Need-returns-3
-unfolding isTwoAces all
+unfolding isTwoAces allOf
 returns-3 c =
     let h = c .before .before .before .before .before .before .args .t1 in
     let full : length (h .cards) ≡ 20 = search needs in

@@ -7,19 +7,19 @@ use borrow.Author.Needs.{needs}
 use borrow.Author.Tests.{eq-eqb, ne-eqb}
 use lib.ListN.{length, take}
 use lib.Seq.{take-all}
-use Rattle.lists.specs.Sum.{sum, count}
+use Rattle.lists.specs.Sum.{sumOf, countOf}
 use Rattle.script.proofs.orders.Orders.{count-next}
 use Rattle.script.proofs.orders.seen.Statement.{statement}
 use Rattle.script.proofs.orders.seen.Tie as tie
 
 abbrev Inv-loop : tie.InvT-loop
-Inv-loop cards face n₀ i₀ i-end n i = (i ≤ length cards) × (n ≤ i) × (n ≡ count face (take i cards))
+Inv-loop cards face n₀ i₀ i-end n i = (i ≤ length cards) × (n ≤ i) × (n ≡ countOf face (take i cards))
 
 abbrev μ-loop : tie.MeasureT-loop
 μ-loop cards face n₀ i₀ i-end n i = length cards - i
 
 loop-holds : tie.Need-loop-holds Inv-loop μ-loop
-unfolding sum
+unfolding sumOf
 loop-holds c = search needs
 
 shared-slice-read-if1 : tie.Need-shared-slice-read-if1 Inv-loop μ-loop
@@ -48,7 +48,7 @@ loop-again c =
 returns : tie.Need-returns Inv-loop μ-loop
 returns c =
     let here = c .before in
-    here .loop .inv .2 ∙ ap (count (here .before .args .face)) (take-all (here .loop .i) (here .before .args .cards .now) (omega arith))
+    here .loop .inv .2 ∙ ap (countOf (here .before .args .face)) (take-all (here .loop .i) (here .before .args .cards .now) (omega arith))
 
 pub seen-spec : {M : Type 1} → statement M
 seen-spec =

@@ -6,7 +6,7 @@ use Prim.Native.Nat.{ℕ, _-_, _≤_}
 use native.Mathlib.Omega.{arith}
 use borrow.Author.Needs.{needs}
 use lib.ListN.{length, take, length-map}
-use Rattle.lists.specs.Tests.{any, firstPlace}
+use Rattle.lists.specs.Tests.{anyOf, firstPlace}
 use Rattle.table.specs.declared.Table.{Table}
 use Rattle.table.specs.Seat.{hands}
 use Rattle.table.specs.Table.{seatsHands}
@@ -20,7 +20,7 @@ abbrev turn-by : Table → ℕ → ℕ
 turn-by t card = firstPlace (seatWaits (t .options) card) (seatsHands t)
 
 abbrev Inv-loop : tie.InvT-loop
-Inv-loop o card seats i₀ i = (i ≤ 9) × (any (seatWaits o card) (take i (map hands seats)) ≡ false)
+Inv-loop o card seats i₀ i = (i ≤ 9) × (anyOf (seatWaits o card) (take i (map hands seats)) ≡ false)
 
 abbrev μ-loop : tie.MeasureT-loop
 μ-loop o card seats i₀ i = 9 - i
@@ -29,7 +29,7 @@ up-requires : tie.Need-up-requires Inv-loop μ-loop
 up-requires c κs = search needs
 
 loop-holds : tie.Need-loop-holds Inv-loop μ-loop
-unfolding any
+unfolding anyOf
 loop-holds c = search needs
 
 mul-s : tie.Need-mul-s Inv-loop μ-loop

@@ -1,0 +1,2 @@
+-- Laws of pay lines.
+pub mod Lines

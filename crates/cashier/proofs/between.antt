@@ -1,2 +1,0 @@
--- What is asked behind the conditions between rounds.
-pub mod Answer

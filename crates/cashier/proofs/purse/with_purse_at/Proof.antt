@@ -1,0 +1,22 @@
+-- The seat is taken, given the purse and put back.
+use borrow.Author.Needs.{needs}
+use Rattle.cashier.proofs.purse.with_purse_at.Statement.{statement}
+use Rattle.cashier.proofs.purse.with_purse_at.Tie as tie
+
+cast-j : tie.Need-cast-j
+cast-j c = search needs
+
+seat-at-requires : tie.Need-seat-at-requires
+seat-at-requires c κs = search needs
+
+with-purse-requires : tie.Need-with-purse-requires
+with-purse-requires c κs = search needs
+
+with-seat-requires : tie.Need-with-seat-requires
+with-seat-requires c κs = search needs
+
+returns : tie.Need-returns
+returns c = cc
+
+pub with-purse-at-spec : {M : Type 1} → statement M
+with-purse-at-spec = tie.close (tie.spec cast-j seat-at-requires with-purse-requires with-seat-requires returns)

@@ -1,0 +1,2 @@
+-- Laws of the discards that void and close cite.
+pub mod Laws

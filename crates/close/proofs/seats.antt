@@ -1,0 +1,2 @@
+-- Laws of the seats at the end of a round.
+pub mod Laws

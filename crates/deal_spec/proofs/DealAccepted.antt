@@ -1,0 +1,36 @@
+-- What an accepted deal finds: a fact for each condition of its list, by name. Every proof about the deal cites these.
+use mathlib.Core.Path.{_≡_, refl}
+use mathlib.Core.Bool.{true, false}
+use Prim.Native.Nat.{_+_, _*_, _≤_, _<_}
+use native.Mathlib.Omega.{arith}
+use borrow.Author.Tests.{ltb-false, leb-false, not-false}
+use Rattle.lists.specs.Tests.{allOf}
+use Rattle.call.specs.Refusal.{first}
+use Rattle.call.proofs.Refusals.{none-hold}
+use Rattle.table.specs.declared.Table.{Table}
+use Rattle.table.specs.Table.{isDealt, someStaked, cardsLeft}
+use Rattle.table.specs.Money.{allCover}
+use Rattle.table.specs.Aids.Sound.{Sound}
+use Rattle.table.proofs.Facts.{unbroken}
+use Rattle.deal_spec.specs.Deal.{dealTakes, dealConditions}
+
+pub record DealAccepted (t : Table) : Type 0 where
+  pub sound : Sound t
+  pub between : isDealt t ≡ false
+  pub some : someStaked t ≡ true
+  pub covered : allCover t ≤ t .tray
+  pub past-cut : t .options .cut < cardsLeft t
+  pub enough : t .shoe .drawn + dealTakes t ≤ 52 * t .options .decks
+
+pub deal-accepted : (t : Table) → first (dealConditions t) ≡ 0 → DealAccepted t
+unfolding dealConditions dealTakes allOf
+deal-accepted t e =
+    let (whole, (between, (some, (covered, (past-cut, (enough, _)))))) = none-hold (dealConditions t) refl e in
+    record {
+      sound = unbroken t whole;
+      between = between;
+      some = not-false (someStaked t) some;
+      covered = ltb-false (t .tray) (allCover t) covered;
+      past-cut = leb-false (cardsLeft t) (t .options .cut) past-cut;
+      enough = omega (arith, ltb-false (cardsLeft t) (dealTakes t) enough);
+    }

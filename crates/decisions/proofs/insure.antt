@@ -1,2 +1,0 @@
--- What an accepted insurance says.
-pub mod Accepted

@@ -1,2 +1,0 @@
--- What surrender asks, and the seat of an accepted one.
-pub mod Asked

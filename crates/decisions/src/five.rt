@@ -1,0 +1,35 @@
+// five: a hand of exactly five cards leaves with half its stake won, paid at close (document 01, "The seventeen calls", the guest; article 19).
+ghost use mathlib.Core.Path.{_≡_};
+ghost use Rattle.call.specs.Refusal.{first};
+ghost use Rattle.answer.specs.Outcome.{outcome};
+ghost use Rattle.decisions_spec.specs.Five.{fiveConditions, fiveEffect};
+use crate::end::answer;
+use crate::turn::may_take;
+use crate::turn::turn_number;
+use answer::outcome::Outcome;
+use call::At;
+use call::refusal::asked;
+use rules::seat_hand::BY_FIVE;
+use state::round::up;
+use state::seat::seat_at;
+use table::Table;
+
+// Behind the conditions in turn: 13 the rules do not permit it to that hand.
+fn five_number(t: Table, at: At) -> u8
+    ensures { λ r. ⌜ r ≡ first (fiveConditions t (at .seat)) ⌝ }
+{
+    let number = turn_number(t, at);
+    if number != 0 {
+        return number;
+    }
+    let o = t.options;
+    let s = seat_at(t, at.seat as usize);
+    asked(13, !may_take(o, up(t), s, BY_FIVE), 0)
+}
+
+pub fn five(t: Table, at: At) -> Outcome
+    ensures { λ r. ⌜ r ≡ outcome (fiveConditions t (at .seat)) (fiveEffect t (at .seat)) t ⌝ }
+{
+    let number = five_number(t, at);
+    answer(t, at, number, BY_FIVE)
+}

@@ -1,0 +1,172 @@
+-- A decision that gives the hand whose turn it is the next card: draw and double. The hand was below 21, so it has room and was no prize hand.
+use mathlib.Core.Path.{_≡_, refl, sym, _∙_, ap}
+use mathlib.Core.Bool.{true, false, not, _&&_, _||_, and-eq-true-iff}
+use mathlib.Core.List.{List, [], _∷_, _++_}
+use Prim.Native.Nat.{ℕ, _+_, _-_, _*_, _≤_, _<_}
+use native.Mathlib.Omega.{arith}
+use lib.Dec.{ltb, eqb}
+use lib.ListN.{length, getD, set, length-take}
+use borrow.Author.Tests.{ltb-true}
+use Rattle.lists.specs.Sum.{sumOf}
+use Rattle.lists.proofs.Sums.{sum-snoc, sum-one}
+use Rattle.cards.specs.Hand.{cardsOf, withCard}
+use Rattle.cards.specs.Total.{total}
+use Rattle.cards.proofs.hand.WithCard.{with-card-cards, with-card-count, with-card-full}
+use Rattle.cards.proofs.total.Bounds.{room-below-21, played-more}
+use Rattle.cards.proofs.prize_hand.PrizeTotal.{no-prize-below-21}
+use Rattle.rules.specs.declared.seat_hand.SeatHand.{SeatHand}
+use Rattle.rules.specs.SeatHand.{Played, playedOf, splitAces, notEnded}
+use Rattle.rules.specs.Turn.{waitingPlace}
+use Rattle.rules.specs.Waits.{waits}
+use Rattle.rules.specs.Permits.{takesCards}
+use Rattle.payment.specs.Wager.{wager}
+use Rattle.payment.specs.Prize.{prize}
+use Rattle.payment.proofs.Bounds.{wager-single, prize-none, prize-same, prize-most}
+use Rattle.history.specs.Entry.{Entry, isInsure, isDraw, isDouble}
+use Rattle.history.specs.Cards.{Cards, callTakes}
+use Rattle.history.specs.Hands.{played, missingHand, nextCard, grown, decide}
+use Rattle.history.specs.Money.{lays, wins}
+use Rattle.table.specs.declared.Money.{Money}
+use Rattle.table.specs.declared.Table.{Table}
+use Rattle.table.specs.Seat.{money, purse, stake, insurance, hands}
+use Rattle.table.specs.Shoe.{withDrawn}
+use Rattle.table.specs.Table.{seatAt, up, tableOrder, cardsLeft}
+use Rattle.table.specs.Shape.{Shaped}
+use Rattle.table.specs.Aids.Sound.{Sound, SoundHand}
+use Rattle.table.proofs.SeatHands.{with-hand, hand-is}
+use Rattle.table.proofs.NextCards.{card-at, next-one}
+use Rattle.table.proofs.Cover.{tray-covers}
+use Rattle.agreement.specs.Aids.Agrees.{CardsAgree}
+use Rattle.decisions_spec.specs.Turn.{waitingPlaceOf, waitingHandOf, mayTake}
+use Rattle.decisions_spec.specs.Card.{cardAhead, grownHand, cardEffect}
+use Rattle.decisions_spec.proofs.Acting.{Waiting}
+use Rattle.decisions_spec.proofs.Decision.{Guest, of-seat, draws-some, Decision}
+use Rattle.decisions_spec.proofs.HandChange.{HandChange, hand-decided}
+
+-- the history's next cards are the table's
+pub next-card : (t : Table) (c : Cards) (n : ℕ) → CardsAgree c t → t .shoe .drawn + n < 52 * t .options .decks → nextCard c n ≡ cardAhead t n
+next-card t c n agree left =
+    ap (λ (xs : List ℕ). getD xs (c .taken + n) 0) (sym (agree .order))
+    ∙ ap (λ (k : ℕ). getD (tableOrder t) (k + n) 0) (sym (agree .taken))
+    ∙ card-at t (t .shoe .drawn + n) left
+
+-- what the history makes of the call
+pub record Growing (t : Table) (e : Entry) (j more code : ℕ) : Type 0 where
+  pub guest : Guest e j
+  pub no-insure : isInsure e ≡ false
+  pub gives : isDraw e || isDouble e ≡ true
+  pub takes : (staked : ℕ) (c : Cards) → callTakes (t .options) staked c e ≡ 1
+  pub decides : (c : Cards) (h : Played) → getD (hands (seatAt t j)) (waitingPlaceOf t j) missingHand ≡ h → h .ended ≡ notEnded
+      → decide (hands (seatAt t j)) (waitingPlaceOf t j) c e ≡ set (hands (seatAt t j)) (waitingPlaceOf t j) (played (h .cards ++ (nextCard c 0 ∷ [])) (h .origin) code)
+  pub lays-it : lays j (stake (seatAt t j)) e ≡ more
+  pub in-code : code ≤ 5
+  pub wager-is : (h : Played) → h .ended ≡ code → wager (stake (seatAt t j)) h ≡ stake (seatAt t j) + more
+
+-- what its conditions give
+pub record Allowed (t : Table) (j more : ℕ) : Type 0 where
+  pub below : total (cardsOf (waitingHandOf t j .hand)) < 21
+  pub purse-has : more ≤ purse (seatAt t j)
+  pub left : 1 ≤ cardsLeft t
+
+-- a hand below 21 with the next card
+module _ (h : SeatHand) (card code : ℕ) (full : length (h .hand .cards) ≡ 20) (sound : SoundHand h) (below : total (cardsOf (h .hand)) < 21) where
+  room : h .hand .count < 20
+  room = omega (arith, room-below-21 (cardsOf (h .hand)) (sound .played) (omega (arith, length-take (h .hand .count) (h .hand .cards))) below, length-take (h .hand .count) (h .hand .cards))
+
+  more-cards : cardsOf (withCard (h .hand) card) ≡ cardsOf (h .hand) ++ (card ∷ [])
+  more-cards = with-card-cards (h .hand) card full room
+
+  more-sound : code ≤ 5 → SoundHand (record { hand = withCard (h .hand) card; origin = h .origin; ended = code })
+  more-sound in-code =
+      record {
+        two-cards = omega (arith, with-card-count (h .hand) card room, sound .two-cards);
+        twenty-cards = omega (arith, with-card-count (h .hand) card room, room);
+        played = rw more-cards (played-more (cardsOf (h .hand)) card (sound .played) below);
+        origin = sound .origin;
+        ended = in-code;
+      }
+
+  more-full : length (withCard (h .hand) card .cards) ≡ 20
+  more-full = with-card-full (h .hand) card full room
+
+module _ (t : Table) (e : Entry) (j more code : ℕ) (shaped : Shaped t) (sound : Sound t) (w : Waiting t j (waitingPlaceOf t j)) (g : Growing t e j more code) (a : Allowed t j more) where
+  abbrev won : ℕ
+  won = prize (t .options) (stake (seatAt t j)) (playedOf (grownHand t j code))
+
+  abbrev new-money : Money
+  new-money = money (purse (seatAt t j) - more + won) (stake (seatAt t j)) (insurance (seatAt t j))
+
+  full : length (waitingHandOf t j .hand .cards) ≡ 20
+  full = w .seat .shaped .twenty-cards (waitingPlaceOf t j) (omega arith)
+
+  was : SoundHand (waitingHandOf t j)
+  was = w .seat .playing .each (waitingPlaceOf t j) (w .here) (omega (arith, w .here, w .seat .few, w .seat .shaped .four-places))
+
+  cards : cardsOf (grownHand t j code .hand) ≡ cardsOf (waitingHandOf t j .hand) ++ (cardAhead t 0 ∷ [])
+  cards = more-cards (waitingHandOf t j) (cardAhead t 0) code full was (a .below)
+
+  same-hand : getD (hands (seatAt t j)) (waitingPlaceOf t j) missingHand ≡ playedOf (waitingHandOf t j)
+  same-hand = hand-is (seatAt t j) (waitingPlaceOf t j) (w .seat .shaped) (w .seat .few) (w .here)
+
+  -- the history gives it the same card
+  history-cards : (c : Cards) → CardsAgree c t → cardsOf (waitingHandOf t j .hand) ++ (nextCard c 0 ∷ []) ≡ cardsOf (grownHand t j code .hand)
+  history-cards c agree = ap (λ (x : ℕ). cardsOf (waitingHandOf t j .hand) ++ (x ∷ [])) (next-card t c 0 agree (omega (arith, a .left))) ∙ sym cards
+
+  wins-won : (c : Cards) → CardsAgree c t → wins (t .options) c j (stake (seatAt t j)) (hands (seatAt t j)) e ≡ won
+  unfolding wins
+  wins-won c agree =
+      let o = t .options in
+      let hs = hands (seatAt t j) in
+      let prize-of : Played → ℕ = λ x. prize o (stake (seatAt t j)) (grown x (nextCard c 0)) in
+      simp (of-seat e j (g .guest), g .gives)
+      (ap (λ (b : List ℕ). prize-of (getD hs (waitingPlace o (getD b 0 0) hs) missingHand)) (sym (agree .bank))
+      ∙ ap prize-of same-hand
+      ∙ prize-same o (stake (seatAt t j)) (grown (playedOf (waitingHandOf t j)) (nextCard c 0)) (playedOf (grownHand t j code)) (history-cards c agree))
+
+  card-change : HandChange t e j (waitingPlaceOf t j) (t .tray - won) new-money (grownHand t j code) (withDrawn (t .shoe) 1) 1 more won
+  card-change =
+      let s = seatAt t j in
+      let h = waitingHandOf t j in
+      let new = grownHand t j code in
+      record {
+        guest = g .guest;
+        no-insure = g .no-insure;
+        same-stake = refl;
+        same-insurance = refl;
+        full = more-full h (cardAhead t 0) code full was (a .below);
+        sound-hand = more-sound h (cardAhead t 0) code full was (a .below) (g .in-code);
+        decides = λ c agree. g .decides c (playedOf h) same-hand (w .not-ended) ∙ ap (λ (xs : List ℕ). set (hands s) (waitingPlaceOf t j) (played xs (h .origin) code)) (history-cards c agree);
+        lays-it = g .lays-it;
+        wins-it = wins-won;
+        wager-grows = omega (arith, g .wager-is (playedOf new) refl, wager-single (stake s) (playedOf h) (λ b. omega arith));
+        prize-grows = omega (arith, prize-none (t .options) (stake s) (playedOf h) (no-prize-below-21 (cardsOf (h .hand)) (a .below)));
+        purse-pays = omega (arith, a .purse-has);
+        tray-pays = omega (arith, prize-most (t .options) (stake s) (playedOf new), tray-covers t (shaped .nine-seats) sound (w .seat .acting .dealt) j (w .seat .acting .nine));
+        draws = draws-some t 1 (a .left) (omega arith);
+        takes = g .takes;
+        cards-grow = λ v.
+            omega
+            (arith, ap (sumOf v) cards, sum-snoc v (cardsOf (h .hand)) (cardAhead t 0), ap (sumOf v) (next-one t shaped sound (omega (arith, a .left))), sum-one v (cardAhead t 0));
+      }
+
+  pub card-decides : Decision t e (cardEffect more code t j)
+  unfolding cardEffect
+  card-decides =
+      record {
+        j = j;
+        tray = t .tray - won;
+        seat = with-hand (seatAt t j) new-money (waitingPlaceOf t j) (grownHand t j code);
+        shoe = withDrawn (t .shoe) 1;
+        k = 1;
+        more = more;
+        won = won;
+        is = refl;
+        decided = hand-decided t e j (waitingPlaceOf t j) (t .tray - won) new-money (grownHand t j code) (withDrawn (t .shoe) 1) 1 more won shaped sound w card-change;
+      }
+
+-- a hand that takes cards is below 21
+pub takes-below : (t : Table) (j : ℕ) → mayTake takesCards t j ≡ true → total (cardsOf (waitingHandOf t j .hand)) < 21
+unfolding takesCards
+takes-below t j e =
+    let h = playedOf (waitingHandOf t j) in
+    ltb-true (total (h .cards)) 21 (and-eq-true-iff (waits (t .options) (up t) (length (hands (seatAt t j))) h && not (eqb (h .origin) splitAces)) (ltb (total (h .cards)) 21) .0 e .1)

@@ -1,0 +1,252 @@
+-- A decision, or an insurance: what a call of a guest in a dealt round must give so that any sound table stays sound and one that agrees with a
+-- history still does. It lays `more`, wins `won` and draws k cards.
+use mathlib.Core.Path.{_≡_, refl, sym, _∙_, ap, subst}
+use mathlib.Core.Bool.{true, false, cond, _||_, and-true}
+use mathlib.Core.List.{List, _∷_}
+use Prim.Native.Nat.{ℕ, _+_, _*_, _≤_, _<_}
+use native.Mathlib.Omega.{arith}
+use lib.IntN.{pos}
+use lib.ListN.{length, getD, take, length-append}
+use borrow.Author.Tests.{ltb-true, eq-eqb, ne-eqb}
+use Rattle.lists.specs.Sum.{sumOf}
+use Rattle.cards.specs.Card.{isAce}
+use Rattle.options.specs.declared.Options.{Options}
+use Rattle.rules.specs.SeatHand.{Played}
+use Rattle.rules.specs.Turn.{waitingPlace}
+use Rattle.call.specs.Call.{kind, seat}
+use Rattle.history.specs.Entry.{Entry, isOf, isKind, isStake, isDeal, isInsure, isEnd, isLoad, isFill, isCredit, isBuy, isCash, amountOf}
+use Rattle.history.specs.Rounds.{stakeIn, insuranceIn, stakedBelow}
+use Rattle.history.specs.Cards.{Cards, callTakes, cardsOfHistory}
+use Rattle.history.specs.Hands.{handsAfter, handsIn, decide}
+use Rattle.history.specs.Money.{lays, wins, laidIn, prizesIn, prizeOf, purseOf}
+use Rattle.table.specs.declared.Seat.{Seat}
+use Rattle.table.specs.declared.Shoe.{Shoe}
+use Rattle.table.specs.declared.Table.{Table}
+use Rattle.table.specs.Seat.{purse, stake, insurance, hands, laid, prizes, seatCards}
+use Rattle.table.specs.Shoe.{withDrawn}
+use Rattle.table.specs.Table.{seatAt, isDealt, up, bankCards, tableShoe, cardsLeft}
+use Rattle.table.specs.Shape.{Shaped, ShapedSeat}
+use Rattle.table.specs.Aids.Sound.{Sound, SoundSeat, Insured, Playing}
+use Rattle.table.proofs.SeatChange.{changed, SeatChange, change-shaped, change-money, change-sound}
+use Rattle.agreement.specs.Aids.Agrees.{SeatAgrees, CardsAgree, Good}
+use Rattle.agreement.proofs.OneSeat.{SeatCall, one-call}
+use Rattle.agreement.proofs.Purse.{purse-moves}
+use Rattle.decisions_spec.specs.Turn.{waitingPlaceOf}
+use Rattle.decisions_spec.proofs.Acting.{Acting}
+
+-- insurance and the decisions of seat j: kinds 7 to 14
+pub record Guest (e : Entry) (j : ℕ) : Type 0 where
+  pub least : 7 ≤ kind (e .call)
+  pub most : kind (e .call) ≤ 14
+  pub seat-is : seat (e .call) ≡ j
+
+module _ (e : Entry) (j : ℕ) (g : Guest e j) where
+  -- other kinds it is none of
+  pub no-kind : (n : ℕ) → (kind (e .call) ≡ n → ⊥) → isKind n e ≡ false
+  no-kind n other = ne-eqb (kind (e .call)) n other
+
+  not-end : isEnd e ≡ false
+  not-end = simp (no-kind 15 (λ h. omega arith), no-kind 16 (λ h. omega arith))
+
+  pub not-deal : isDeal e ≡ false
+  not-deal = no-kind 6 (λ h. omega arith)
+
+  not-load : isLoad e ≡ false
+  not-load = no-kind 17 (λ h. omega arith)
+
+  pub not-stake : isStake e ≡ false
+  not-stake = no-kind 5 (λ h. omega arith)
+
+  not-buy : isBuy e ≡ false
+  not-buy = no-kind 3 (λ h. omega arith)
+
+  not-cash : isCash e ≡ false
+  not-cash = no-kind 4 (λ h. omega arith)
+
+  none-goes : isCredit e || isCash e ≡ false
+  none-goes = simp (no-kind 2 (λ h. omega arith), not-cash)
+
+  none-comes : isFill e || isBuy e ≡ false
+  none-comes = simp (no-kind 1 (λ h. omega arith), not-buy)
+
+  pub of-seat : isOf j e ≡ true
+  of-seat = eq-eqb (seat (e .call)) j (g .seat-is)
+
+  of-other : (i : ℕ) → (i ≡ j → ⊥) → isOf i e ≡ false
+  of-other i other = ne-eqb (seat (e .call)) i (λ h. other (omega arith))
+
+  -- the history's values of the seat after it
+  module _ (o : Options) (opening : List ℕ) (es : List Entry) where
+    stake-after : stakeIn (e ∷ es) j ≡ stakeIn es j
+    stake-after = simp (not-end, not-stake)
+
+    insurance-after : insuranceIn (e ∷ es) j ≡ cond (isInsure e) (amountOf e) (insuranceIn es j)
+    insurance-after = simp (not-end, of-seat, and-true)
+
+    hands-after : (c : Cards) → c ≡ cardsOfHistory o opening es
+        → handsIn o opening (e ∷ es) j ≡ decide (handsIn o opening es j) (waitingPlace o (getD (c .bank) 0 0) (handsIn o opening es j)) c e
+    unfolding handsAfter
+    hands-after c same = simp (not-deal, not-end, of-seat, same)
+
+    laid-after : laidIn (e ∷ es) j ≡ lays j (stakeIn es j) e + laidIn es j
+    laid-after = simp not-end
+
+    prizes-after : prizesIn o opening (e ∷ es) j ≡ prizeOf o opening es j e + prizesIn o opening es j
+    prizes-after = simp not-end
+
+    purse-after : (x next : ℕ) → pos x ≡ purseOf o opening es j → next + lays j (stakeIn es j) e ≡ x + prizeOf o opening es j e
+        → pos next ≡ purseOf o opening (e ∷ es) j
+    purse-after x next p h = purse-moves o opening es j e not-end x next p (simp (not-buy, not-cash) (omega arith))
+
+-- k cards are drawn and go elsewhere
+pub record Draws (t : Table) (shoe : Shoe) (k : ℕ) : Type 0 where
+  pub same-order : shoe .order ≡ t .shoe .order
+  pub same-discards : shoe .discards ≡ t .shoe .discards
+  pub same-discarded : shoe .discarded ≡ t .shoe .discarded
+  pub more-drawn : shoe .drawn ≡ t .shoe .drawn + k
+  pub enough : t .shoe .drawn + k ≤ 52 * t .options .decks
+
+pub draws-none : (t : Table) → Sound t → Draws t (t .shoe) 0
+draws-none t sound = record { same-order = refl; same-discards = refl; same-discarded = refl; more-drawn = omega arith; enough = omega (arith, sound .drawn) }
+
+pub draws-some : (t : Table) (k : ℕ) → k ≤ cardsLeft t → 0 < k → Draws t (withDrawn (t .shoe) k) k
+draws-some t k left some = record { same-order = refl; same-discards = refl; same-discarded = refl; more-drawn = refl; enough = omega arith }
+
+pub record Decided (t : Table) (e : Entry) (j tray : ℕ) (s : Seat) (shoe : Shoe) (k more won : ℕ) : Type 0 where
+  pub guest : Guest e j
+  pub acting : Acting t j
+  pub shaped-seat : ShapedSeat s
+  pub same-stake : stake s ≡ stake (seatAt t j)
+  pub insured : 0 < insurance s → Insured (t .options) (isDealt t) (isAce (up t)) s
+  pub has-hands : 0 < s .hands .many
+  pub playing : Playing (t .options) (isDealt t) s
+  pub insurance-is : insurance s ≡ cond (isInsure e) (amountOf e) (insurance (seatAt t j))
+  pub hands-are : (c : Cards) → CardsAgree c t → hands s ≡ decide (hands (seatAt t j)) (waitingPlaceOf t j) c e
+  pub lays-it : lays j (stake (seatAt t j)) e ≡ more
+  pub wins-it : (c : Cards) → CardsAgree c t → wins (t .options) c j (stake (seatAt t j)) (hands (seatAt t j)) e ≡ won
+  pub laid-grows : laid s ≡ laid (seatAt t j) + more
+  pub prizes-grow : prizes (t .options) s ≡ prizes (t .options) (seatAt t j) + won
+  pub purse-pays : purse s + more ≡ purse (seatAt t j) + won
+  pub tray-pays : tray + won ≡ t .tray
+  pub draws : Draws t shoe k
+  pub takes : (staked : ℕ) (c : Cards) → callTakes (t .options) staked c e ≡ k
+  pub cards-moved : (w : ℕ → ℕ) → sumOf w (seatCards s) ≡ sumOf w (seatCards (seatAt t j)) + sumOf w (take k (tableShoe t))
+
+-- in a dealt round something is drawn: the bank's card
+some-drawn : (t : Table) → Sound t → isDealt t ≡ true → 0 < t .shoe .drawn
+some-drawn t sound dealt =
+    omega (arith, simp length-append at (sound .number), ltb-true 0 (length (bankCards t)) dealt)
+
+module _ (t : Table) (e : Entry) (j tray : ℕ) (s : Seat) (shoe : Shoe) (k more won : ℕ) (sound : Sound t) (d : Decided t e j tray s shoe k more won) where
+  was : SoundSeat (t .options) (isDealt t) (isAce (up t)) j (seatAt t j)
+  was = sound .seats j (d .acting .nine)
+
+  change : SeatChange t j tray s shoe k 0 0
+  change =
+      record {
+        within = d .acting .within;
+        shaped-seat = d .shaped-seat;
+        sound-seat =
+            record {
+              beyond = λ h. absurd (omega arith);
+              stake-fits = λ h. rw (d .same-stake) (was .stake-fits (omega arith));
+              insured = d .insured;
+              waiting = λ none dealt. absurd (omega arith);
+              playing = λ some. d .playing;
+              prizes-back = omega (arith, was .prizes-back);
+            };
+        same-stake = λ dealt. d .same-stake;
+        paid = omega arith;
+        in-limit = omega (arith, sound .money);
+        prizes-paid = λ dealt. omega arith;
+        same-order = d .draws .same-order;
+        same-discards = d .draws .same-discards;
+        same-discarded = d .draws .same-discarded;
+        more-drawn = d .draws .more-drawn;
+        enough = d .draws .enough;
+        cards-moved = d .cards-moved;
+      }
+
+module _ (opening : List ℕ) (es : List Entry) (t : Table) (e : Entry) (j tray : ℕ) (s : Seat) (shoe : Shoe) (k more won : ℕ) (good : Good opening es t) (d : Decided t e j tray s shoe k more won) where
+  some-card : 0 < t .shoe .drawn
+  some-card = some-drawn t (good .sound) (d .acting .dealt)
+
+  -- the history's seat, whose values the table's are
+  history : SeatAgrees (t .options) opening es j (seatAt t j)
+  history = good .agrees .seats j
+
+  lays-history : lays j (stakeIn es j) e ≡ more
+  lays-history = ap (λ (S : ℕ). lays j S e) (sym (history .stake-is)) ∙ d .lays-it
+
+  wins-history : prizeOf (t .options) opening es j e ≡ won
+  wins-history = simp (← (history .stake-is), ← (history .hands-are)) (d .wins-it (cardsOfHistory (t .options) opening es) (good .agrees .cards))
+
+  hands-history : (c : Cards) → CardsAgree c t
+      → hands s ≡ decide (handsIn (t .options) opening es j) (waitingPlace (t .options) (getD (c .bank) 0 0) (handsIn (t .options) opening es j)) c e
+  hands-history c agree =
+      d .hands-are c agree
+      ∙ ap (λ (b : List ℕ). decide (hands (seatAt t j)) (waitingPlace (t .options) (getD b 0 0) (hands (seatAt t j))) c e) (agree .bank)
+      ∙ ap (λ (hs : List Played). decide hs (waitingPlace (t .options) (getD (c .bank) 0 0) hs) c e) (history .hands-are)
+
+  seat-agrees : SeatAgrees (t .options) opening (e ∷ es) j s
+  seat-agrees =
+      let c = cardsOfHistory (t .options) opening es in
+      record {
+        stake-is = d .same-stake ∙ history .stake-is ∙ sym (stake-after e j (d .guest) (t .options) opening es);
+        insurance-is =
+            d .insurance-is
+            ∙ ap (λ (I : ℕ). cond (isInsure e) (amountOf e) I) (history .insurance-is)
+            ∙ sym (insurance-after e j (d .guest) (t .options) opening es);
+        hands-are = hands-history c (good .agrees .cards) ∙ sym (hands-after e j (d .guest) (t .options) opening es c refl);
+        laid-is =
+            let l : laid s ≡ lays j (stakeIn es j) e + laidIn es j = omega (arith, d .laid-grows, history .laid-is, lays-history) in
+            l ∙ sym (laid-after e j (d .guest) (t .options) opening es);
+        prizes-are =
+            let w : prizes (t .options) s ≡ prizeOf (t .options) opening es j e + prizesIn (t .options) opening es j = omega (arith, d .prizes-grow, history .prizes-are, wins-history) in
+            w ∙ sym (prizes-after e j (d .guest) (t .options) opening es);
+        purse-is =
+            purse-after e j (d .guest) (t .options) opening es (purse (seatAt t j)) (purse s) (history .purse-is)
+            (omega (arith, d .purse-pays, lays-history, wins-history));
+      }
+
+  call : SeatCall opening es t e j tray s shoe k
+  call =
+      record {
+        not-end = not-end e j (d .guest);
+        not-deal = not-deal e j (d .guest);
+        not-load = not-load e j (d .guest);
+        of-other = of-other e j (d .guest);
+        takes = d .takes (stakedBelow es (t .options .seats)) (cardsOfHistory (t .options) opening es);
+        same-order = d .draws .same-order;
+        more-drawn = d .draws .more-drawn;
+        same-fresh = ne-eqb (shoe .drawn) 0 (λ h. omega (arith, some-card)) ∙ sym (ne-eqb (t .shoe .drawn) 0 (λ h. omega (arith, some-card)));
+        seat = seat-agrees;
+        money = simp (none-goes e j (d .guest), none-comes e j (d .guest)) (omega (arith, change-money t j tray s shoe k 0 0 (good .shaped) (good .sound) (change t e j tray s shoe k more won (good .sound) d)));
+      }
+
+-- what a call decides: from the conditions, on any sound table
+pub record Decision (t : Table) (e : Entry) (after : Table) : Type 0 where
+  pub j : ℕ
+  pub tray : ℕ
+  pub seat : Seat
+  pub shoe : Shoe
+  pub k : ℕ
+  pub more : ℕ
+  pub won : ℕ
+  pub is : after ≡ changed t j tray seat shoe
+  pub decided : Decided t e j tray seat shoe k more won
+
+-- it keeps any sound table sound, and a table that agrees with a history in agreement
+module _ (t : Table) (e : Entry) (after : Table) (d : Decision t e after) where
+  pub decision-kept : Shaped t → Sound t → Shaped after × Sound after
+  decision-kept shaped sound =
+      let moves = change t e (d .j) (d .tray) (d .seat) (d .shoe) (d .k) (d .more) (d .won) sound (d .decided) in
+      subst (λ (x : Table). Shaped x × Sound x) (sym (d .is))
+      (change-shaped t (d .j) (d .tray) (d .seat) (d .shoe) (d .k) 0 0 shaped sound moves, change-sound t (d .j) (d .tray) (d .seat) (d .shoe) (d .k) 0 0 shaped sound moves)
+
+  pub decision-good : (opening : List ℕ) (es : List Entry) → Good opening es t → Good opening (e ∷ es) after
+  decision-good opening es good =
+      subst (Good opening (e ∷ es)) (sym (d .is))
+      (one-call opening es t e (d .j) (d .tray) (d .seat) (d .shoe) (d .k) 0 0 good
+      (change t e (d .j) (d .tray) (d .seat) (d .shoe) (d .k) (d .more) (d .won) (good .sound) (d .decided))
+      (call opening es t e (d .j) (d .tray) (d .seat) (d .shoe) (d .k) (d .more) (d .won) good (d .decided)))

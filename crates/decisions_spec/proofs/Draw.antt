@@ -1,0 +1,68 @@
+-- An accepted draw gives the hand whose turn it is the next card, and pays the prize that this makes.
+use mathlib.Core.Path.{_≡_, refl, _∙_, ap}
+use mathlib.Core.Bool.{true}
+use mathlib.Core.List.{List, [], _∷_, _++_}
+use Prim.Native.Nat.{ℕ, _≤_}
+use native.Mathlib.Omega.{arith}
+use lib.ListN.{set}
+use borrow.Author.Tests.{ltb-false, eq-eqb, not-false}
+use Rattle.lists.specs.Tests.{allOf}
+use Rattle.rules.specs.SeatHand.{Played, notEnded}
+use Rattle.rules.specs.Permits.{permitsDraw}
+use Rattle.payment.proofs.Bounds.{wager-single}
+use Rattle.call.specs.declared.At.{At}
+use Rattle.call.specs.declared.Call.the-variants.{Draw}
+use Rattle.call.specs.Refusal.{first}
+use Rattle.history.specs.Aids.MakeEntry.{entry}
+use Rattle.history.specs.Cards.{callTakes}
+use Rattle.history.specs.Hands.{played, nextCard, grown, decide}
+use Rattle.history.specs.Money.{lays}
+use Rattle.table.specs.declared.Table.{Table}
+use Rattle.table.specs.Seat.{stake, hands}
+use Rattle.table.specs.Table.{seatAt, cardsLeft}
+use Rattle.table.specs.Shape.{Shaped}
+use Rattle.table.specs.Aids.Sound.{Sound}
+use Rattle.decisions_spec.specs.Turn.{waitingPlaceOf, mayTake}
+use Rattle.decisions_spec.specs.Draw.{drawConditions, drawEffect}
+use Rattle.decisions_spec.proofs.Decision.{Decision}
+use Rattle.decisions_spec.proofs.Turn.{TurnAccepted, turn-accepted, turn-waiting}
+use Rattle.decisions_spec.proofs.Card.{Growing, Allowed, takes-below, card-decides}
+
+-- what its conditions give
+pub record DrawAccepted (t : Table) (j : ℕ) : Type 0 where
+  pub turn : TurnAccepted t j
+  pub permitted : mayTake permitsDraw t j ≡ true
+  pub left : 1 ≤ cardsLeft t
+
+pub draw-accepted : (t : Table) (j : ℕ) → first (drawConditions t j) ≡ 0 → DrawAccepted t j
+unfolding drawConditions allOf
+draw-accepted t j e =
+    let (turn, (permitted, (left, _))) = turn-accepted t j _ refl e in
+    record { turn = turn; permitted = not-false (mayTake permitsDraw t j) permitted; left = ltb-false (cardsLeft t) 1 left }
+
+module _ (t : Table) (at : At) (order : List ℕ) where
+  growing : Growing t (entry (Draw at) order) (at .seat) 0 notEnded
+  unfolding lays decide callTakes
+  growing =
+      let j = at .seat in
+      record {
+        guest = record { least = omega arith; most = omega arith; seat-is = refl };
+        no-insure = refl;
+        gives = refl;
+        takes = λ staked c. refl;
+        decides = λ c h same still-open.
+            ap (λ (x : Played). set (hands (seatAt t j)) (waitingPlaceOf t j) (grown x (nextCard c 0))) same
+            ∙ ap (λ (n : ℕ). set (hands (seatAt t j)) (waitingPlaceOf t j) (played (h .cards ++ (nextCard c 0 ∷ [])) (h .origin) n)) still-open;
+        lays-it = simp (eq-eqb j j refl);
+        in-code = omega arith;
+        wager-is = λ h code. omega (arith, wager-single (stake (seatAt t j)) h (λ b. omega arith));
+      }
+
+  allowed : DrawAccepted t (at .seat) → Allowed t (at .seat) 0
+  unfolding permitsDraw
+  allowed a = record { below = takes-below t (at .seat) (a .permitted); purse-has = omega arith; left = a .left }
+
+  pub draw-decides : Shaped t → Sound t → first (drawConditions t (at .seat)) ≡ 0 → Decision t (entry (Draw at) order) (drawEffect t (at .seat))
+  draw-decides shaped sound e =
+      let a = draw-accepted t (at .seat) e in
+      card-decides t (entry (Draw at) order) (at .seat) 0 notEnded shaped sound (turn-waiting t shaped sound (at .seat) (a .turn)) growing (allowed a)

@@ -1,0 +1,101 @@
+-- A decision that ends a hand and moves no money and no card: stand, even, five and surrender. The wager stays S: only double has another.
+use mathlib.Core.Path.{_≡_, refl, _∙_, ap}
+use mathlib.Core.Bool.{false, _||_, and-false}
+use Prim.Native.Nat.{ℕ, _≤_}
+use native.Mathlib.Omega.{arith}
+use lib.ListN.{getD, set}
+use Rattle.lists.specs.Sum.{sumOf}
+use Rattle.lists.proofs.Tests.{or-eq-false}
+use Rattle.rules.specs.SeatHand.{Played, playedOf, byDouble}
+use Rattle.payment.proofs.Bounds.{wager-single, prize-same}
+use Rattle.history.specs.Entry.{Entry, isInsure, isDraw, isDouble, isSplit}
+use Rattle.history.specs.Cards.{Cards, callTakes}
+use Rattle.history.specs.Hands.{decide, missingHand, finished}
+use Rattle.history.specs.Money.{lays, wins}
+use Rattle.table.specs.declared.Seat.{Seat}
+use Rattle.table.specs.declared.Table.{Table}
+use Rattle.table.specs.Seat.{stake, hands}
+use Rattle.table.specs.Table.{withSeat, seatAt}
+use Rattle.table.specs.Shape.{Shaped}
+use Rattle.table.specs.Aids.Sound.{Sound}
+use Rattle.table.proofs.SeatHands.{hand-is}
+use Rattle.decisions_spec.specs.Place.{placeOf, withPlace, endedBy}
+use Rattle.decisions_spec.specs.Turn.{waitingPlaceOf, endEffect}
+use Rattle.decisions_spec.proofs.Decision.{Guest, no-kind, not-deal, not-stake, of-seat, draws-none, Decision}
+use Rattle.decisions_spec.proofs.Acting.{Waiting}
+use Rattle.decisions_spec.proofs.Turn.{TurnAccepted, turn-waiting}
+use Rattle.decisions_spec.proofs.HandChange.{HandChange, hand-decided}
+
+-- the seat with its hand at p ended by this code
+abbrev ended-seat : Table → ℕ → ℕ → ℕ → Seat
+ended-seat t j p code = withPlace (seatAt t j) p (endedBy (placeOf (seatAt t j) p) code)
+
+-- what the history makes of the call
+pub record Ends (t : Table) (e : Entry) (j p code : ℕ) : Type 0 where
+  pub guest : Guest e j
+  pub plain : isInsure e || isDraw e || isDouble e || isSplit e ≡ false
+  pub decides : (c : Cards) → decide (hands (seatAt t j)) (waitingPlaceOf t j) c e ≡ set (hands (seatAt t j)) p (finished (getD (hands (seatAt t j)) p missingHand) code)
+  pub in-code : code ≤ 5
+  pub single : code ≡ byDouble → ⊥
+
+module _ (t : Table) (e : Entry) (j p code : ℕ) (d : Ends t e j p code) where
+  plains : (isInsure e ≡ false) × (isDraw e ≡ false) × (isDouble e ≡ false) × (isSplit e ≡ false)
+  plains =
+      let (three, split) = or-eq-false (isInsure e || isDraw e || isDouble e) (isSplit e) (d .plain) in
+      let (two, double) = or-eq-false (isInsure e || isDraw e) (isDouble e) three in
+      let (insure, draw) = or-eq-false (isInsure e) (isDraw e) two in
+      (insure, draw, double, split)
+
+  lays-none : (S : ℕ) → lays j S e ≡ 0
+  unfolding lays
+  lays-none S = simp (not-stake e j (d .guest), plains .0, plains .2, plains .3, of-seat e j (d .guest))
+
+  takes-none : (staked : ℕ) (c : Cards) → callTakes (t .options) staked c e ≡ 0
+  unfolding callTakes
+  takes-none staked c = simp (not-deal e j (d .guest), plains .1, plains .2, plains .3, no-kind e j (d .guest) 15 (λ h. omega arith))
+
+  end-change : Sound t → Waiting t j p → HandChange t e j p (t .tray) (seatAt t j .money) (endedBy (placeOf (seatAt t j) p) code) (t .shoe) 0 0 0
+  unfolding wins sumOf
+  end-change sound w =
+      let s = seatAt t j in
+      let h = placeOf s p in
+      let new = endedBy h code in
+      let was = w .seat .playing .each p (w .here) (omega (arith, w .here, w .seat .few, w .seat .shaped .four-places)) in
+      record {
+        guest = d .guest;
+        no-insure = plains .0;
+        same-stake = refl;
+        same-insurance = refl;
+        full = w .seat .shaped .twenty-cards p (omega arith);
+        sound-hand = record { two-cards = was .two-cards; twenty-cards = was .twenty-cards; played = was .played; origin = was .origin; ended = d .in-code };
+        decides =
+            λ c agree. d .decides c ∙ ap (λ (x : Played). set (hands s) p (finished x code)) (hand-is s p (w .seat .shaped) (w .seat .few) (w .here));
+        lays-it = lays-none (stake s);
+        wins-it = λ c agree. simp (plains .1, plains .2, and-false);
+        wager-grows = omega (arith, wager-single (stake s) (playedOf new) (d .single), wager-single (stake s) (playedOf h) (λ b. omega arith));
+        prize-grows = omega (arith, prize-same (t .options) (stake s) (playedOf new) (playedOf h) refl);
+        purse-pays = refl;
+        tray-pays = omega arith;
+        draws = draws-none t sound;
+        takes = takes-none;
+        cards-grow = λ v. omega arith;
+      }
+
+  pub end-decides : Shaped t → Sound t → Waiting t j p → Decision t e (withSeat t j (ended-seat t j p code))
+  end-decides shaped sound w =
+      record {
+        j = j;
+        tray = t .tray;
+        seat = ended-seat t j p code;
+        shoe = t .shoe;
+        k = 0;
+        more = 0;
+        won = 0;
+        is = refl;
+        decided = hand-decided t e j p (t .tray) (seatAt t j .money) (endedBy (placeOf (seatAt t j) p) code) (t .shoe) 0 0 0 shaped sound w (end-change sound w);
+      }
+
+-- in turn it is the hand whose turn it is
+pub end-in-turn : (t : Table) (e : Entry) (j code : ℕ) → Ends t e j (waitingPlaceOf t j) code → Shaped t → Sound t → TurnAccepted t j → Decision t e (endEffect code t j)
+unfolding endEffect
+end-in-turn t e j code d shaped sound a = end-decides t e j (waitingPlaceOf t j) code d shaped sound (turn-waiting t shaped sound j a)

@@ -1,0 +1,17 @@
+-- Each accepted insurance and decision keeps a sound table sound, and a table that agrees with a history in agreement: `Decision` says what that
+-- takes, and each call has a file with what its acceptance gives and the lemma that it is such a decision.
+pub mod Acting
+pub mod Decision
+pub mod Insure
+-- The decisions in turn and surrender, which put other hands in their places.
+pub mod Turn
+pub mod HandChange
+pub mod End
+pub mod Stand
+pub mod Even
+pub mod Five
+pub mod Surrender
+pub mod Card
+pub mod Draw
+pub mod Double
+pub mod Split

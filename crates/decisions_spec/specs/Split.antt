@@ -1,0 +1,53 @@
+-- Document 01, "The seventeen calls", the guest: split (S more for the new hand, which follows its parent; two cards drawn, the first to the parent),
+-- article 16. When it is refused, and the table after it.
+use mathlib.Core.Bool.{not, cond}
+use mathlib.Core.List.{List, [], _∷_, _++_}
+use Prim.Native.Nat.{ℕ, suc, _+_, _-_}
+use lib.Dec.{leb, ltb}
+use lib.ListN.{length, getD, take, drop, set}
+use Rattle.call.specs.Refusal.{Condition}
+use Rattle.cards.specs.Card.{isAce}
+use Rattle.cards.specs.Hand.{cardsOf, emptyHand, withCard}
+use Rattle.cards.specs.Pair.{isPair}
+use Rattle.rules.specs.declared.seat_hand.SeatHand.{SeatHand}
+use Rattle.rules.specs.SeatHand.{split, splitAces, notEnded}
+use Rattle.table.specs.declared.Table.{Table}
+use Rattle.table.specs.Seat.{money, makeSeat, purse, stake, insurance, hands}
+use Rattle.table.specs.Shoe.{withDrawn}
+use Rattle.table.specs.Table.{makeTable, seatAt, cardsLeft}
+use Rattle.decisions_spec.specs.Turn.{turnConditions, waitingPlaceOf, waitingHandOf}
+use Rattle.decisions_spec.specs.Card.{cardAhead}
+
+-- 13 has two causes: no pair, or the seat's hands are used up.
+unfoldable pub splitConditions : Table → ℕ → List Condition
+splitConditions t j =
+    turnConditions t j
+    ++ (13, not (isPair (cardsOf (waitingHandOf t j .hand))))
+    ∷ (13, leb (t .options .hands) (length (hands (seatAt t j))))
+    ∷ (15, ltb (purse (seatAt t j)) (stake (seatAt t j)))
+    ∷ (18, ltb (cardsLeft t) 2)
+    ∷ []
+
+-- The card at a place of the hand whose turn it is.
+abbrev pub pairCardOf : Table → ℕ → ℕ → ℕ
+pairCardOf t j k = getD (cardsOf (waitingHandOf t j .hand)) k 0
+
+-- A hand of a kept card and a drawn one; from split aces where the kept card is an ace.
+abbrev pub splitHand : ℕ → ℕ → SeatHand
+splitHand kept card =
+    record { hand = withCard (withCard emptyHand kept) card; origin = cond (isAce kept) splitAces split; ended = notEnded }
+
+-- The places with the parent at p and the new hand behind it; later hands move up one.
+abbrev pub splitPlaces : List SeatHand → ℕ → SeatHand → SeatHand → List SeatHand
+splitPlaces places p parent new = take 4 (take p places ++ parent ∷ new ∷ drop (suc p) places)
+
+unfoldable pub splitEffect : Table → ℕ → Table
+splitEffect t j =
+    let s = seatAt t j in
+    let parent = splitHand (pairCardOf t j 0) (cardAhead t 0) in
+    let new = splitHand (pairCardOf t j 1) (cardAhead t 1) in
+    makeTable (t .options) (t .tray)
+    (set (t .seats) j
+    (makeSeat (money (purse s - stake s) (stake s) (insurance s))
+    (record { places = splitPlaces (s .hands .places) (waitingPlaceOf t j) parent new; many = s .hands .many + 1 })))
+    (t .bank) (withDrawn (t .shoe) 2)

@@ -1,2 +1,0 @@
--- What the tests of the display give.
-pub mod Such

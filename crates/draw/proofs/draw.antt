@@ -1,2 +1,0 @@
--- Laws of draw and double as one call.
-pub mod Laws

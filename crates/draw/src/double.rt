@@ -1,0 +1,51 @@
+// double: S more, one card, and the hand ends (document 01, "The seventeen calls", the guest; article 17).
+ghost use mathlib.Core.Path.{_≡_};
+ghost use Rattle.call.specs.Refusal.{first};
+ghost use Rattle.answer.specs.Outcome.{outcome};
+ghost use Rattle.decisions_spec.specs.Double.{doubleConditions, doubleEffect};
+use crate::card::with_next_card;
+use answer::outcome::Outcome;
+use call::At;
+use call::refusal::asked;
+use decisions::turn::may_take;
+use decisions::turn::turn_number;
+use rules::seat_hand::BY_DOUBLE;
+use state::round::cards_left;
+use state::round::up;
+use state::seat::seat_at;
+use table::Table;
+
+// Behind the conditions in turn: 13 the rules do not permit it to that hand, 15 the purse is below the stake, 18 no card is left.
+fn double_number(t: Table, at: At) -> u8
+    ensures { λ r. ⌜ r ≡ first (doubleConditions t (at .seat)) ⌝ }
+{
+    let number = turn_number(t, at);
+    if number != 0 {
+        return number;
+    }
+    let o = t.options;
+    let s = seat_at(t, at.seat as usize);
+    let money = s.money;
+    let permitted = may_take(o, up(t), s, BY_DOUBLE);
+    let stake = money.stake as u64;
+    asked(
+        13,
+        !permitted,
+        asked(15, money.purse < stake, asked(18, cards_left(t) < 1, 0)),
+    )
+}
+
+pub fn double(t: Table, at: At) -> Outcome
+    ensures { λ r. ⌜ r ≡ outcome (doubleConditions t (at .seat)) (doubleEffect t (at .seat)) t ⌝ }
+{
+    let number = double_number(t, at);
+    if number != 0 {
+        return Outcome { number, table: t };
+    }
+    let s = seat_at(t, at.seat as usize);
+    let money = s.money;
+    Outcome {
+        number,
+        table: with_next_card(t, at, money.stake as u64, BY_DOUBLE),
+    }
+}

@@ -1,2 +1,0 @@
--- Laws of the discards that the loops cite.
-pub mod Discards

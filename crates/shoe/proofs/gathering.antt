@@ -1,2 +1,0 @@
--- The seats at the end of a round.
-pub mod Seats
