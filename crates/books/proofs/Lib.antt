@@ -4,3 +4,4 @@ pub mod Claims
 pub mod Steps
 pub mod Theorem
 pub mod Keeps
+pub mod Opens

@@ -1,15 +1,23 @@
--- Two laws beside the theorem: an accepted call keeps a whole table whole, and the accepted calls alone give the same table.
+-- Laws beside the theorem: its first table is the one that the code's opening returns, an accepted call keeps a whole table whole, and the accepted calls
+-- alone give the same table.
 use mathlib.Core.Path.{_≡_}
 use mathlib.Core.Bool.{false}
 use mathlib.Core.List.{List, [], reverse}
 use Prim.Native.Nat.{ℕ}
 use Rattle.call.specs.declared.Call.{Call}
+use Rattle.options.specs.declared.Options.{Options}
 use Rattle.table.specs.declared.Table.{Table}
 use Rattle.table.specs.Shape.{Shaped}
 use Rattle.table.specs.Broken.{broken}
 use Rattle.history.specs.Entry.{Entry}
+use Rattle.answer.specs.Outcome.{makeOutcome, outcome}
+use Rattle.cashier_spec.specs.Opening.{openConditions, openTable, emptyTable, openNumber, opened}
 use Rattle.engine.specs.Step.{number, effect}
 use Rattle.engine.specs.Run.{run, accepted}
+
+-- What the contract of the code's opening gives is the number and the table that the theorem begins with.
+abbrev pub Opens : Options → List ℕ → Type 0
+Opens o order = outcome (openConditions o order) (openTable o order) emptyTable ≡ makeOutcome (openNumber o order) (opened o order)
 
 -- A table value whose arrays have their lengths and that is not broken: reached by calls or not.
 pub record Whole (t : Table) : Type 0 where

@@ -1,3 +1,3 @@
--- The statement of demand 3, and the two laws beside it.
+-- The statement of demand 3, and the laws beside it.
 pub mod Books
 pub mod Laws

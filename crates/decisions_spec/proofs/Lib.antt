@@ -15,3 +15,4 @@ pub mod Card
 pub mod Draw
 pub mod Double
 pub mod Split
+pub mod Permitted

@@ -45,7 +45,7 @@ surrender-accepted t j e =
     record { acting = acting t j unbroken in-round such-seat staked; early = early; waits = not-false (seatWaits (t .options) (up t) (hands (seatAt t j))) waits }
 
 -- nobody has split
-nobody-split : (t : Table) (j : ℕ) → Shaped t → j < 9 → anyDrew t ≡ false → length (hands (seatAt t j)) ≤ 1
+pub nobody-split : (t : Table) (j : ℕ) → Shaped t → j < 9 → anyDrew t ≡ false → length (hands (seatAt t j)) ≤ 1
 unfolding anyDrew seatDrew
 nobody-split t j shaped nine none =
     let mine : seatDrew (hands (seatAt t j)) ≡ false =

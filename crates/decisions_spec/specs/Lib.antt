@@ -14,3 +14,5 @@ pub mod Double
 pub mod Split
 pub mod Even
 pub mod Five
+-- That an accepted decision is one that the rules permit.
+pub mod Permitted
