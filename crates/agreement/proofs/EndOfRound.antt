@@ -7,10 +7,11 @@ use Prim.Native.Nat.{ℕ, _+_, _*_}
 use native.Mathlib.Omega.{arith}
 use lib.IntN.{pos}
 use lib.ListN.{take, getD}
-use Rattle.lists.specs.Tests.{allOf}
+use Rattle.lists.specs.Tests.{anyOf, allOf}
 use Rattle.lists.proofs.Places.{view-map}
 use Rattle.lists.proofs.Differences.{Diff}
 use Rattle.options.specs.declared.Options.{Options}
+use Rattle.rules.specs.Drew.{seatDrew}
 use Rattle.table.specs.declared.Seat.{Seat}
 use Rattle.table.specs.declared.Shoe.{Shoe}
 use Rattle.table.specs.declared.Table.{Table}
@@ -26,6 +27,7 @@ use Rattle.history.specs.Money.{laidEver, prizesEver, bought, cashed, endsBroug
 use Rattle.agreement.specs.Aids.Agrees.{SeatAgrees, CardsAgree, Good}
 use Rattle.agreement.proofs.Purse.{purse-law}
 use Rattle.agreement.proofs.Quiet.{none-of-all, Quiet, lays-nothing, wins-nothing}
+use Rattle.agreement.proofs.Events.{seatDecided, nobody-decided}
 
 -- a call that ends a round and does nothing that another kind does
 pub record Ends (e : Entry) : Type 0 where
@@ -97,11 +99,13 @@ module _ (opening : List ℕ) (es : List Entry) (t : Table) (e : Entry) (tray : 
   cards-after call c same = simp (call .ends .no-load, call .ends .quiet .no-deal, call .ends .is-end, call .takes, same)
 
   pub end-call : Good opening es t → RoundEnd t tray purse-of shoe k cards → EndCall → Good opening (e ∷ es) (roundEnded t tray purse-of shoe)
+  unfolding anyOf seatDrew
   end-call g end call =
       let c = cardsOfHistory (t .options) opening es in
       let a = g .agrees in
       let q = call .ends in
       let now : cardsOfHistory (t .options) opening (e ∷ es) ≡ makeCards (c .order) (c .fresh) (c .taken + k) [] = cards-after call c refl in
+      let undecided = nobody-decided (roundEnded t tray purse-of shoe) (λ i h. ap seatDecided (view-map hands (cleared purse-of) (t .seats) i missingSeat refl)) in
       record {
         shaped = end-shaped t tray purse-of shoe k cards (g .shaped) (g .sound) end;
         sound = end-sound t tray purse-of shoe k cards (g .shaped) (g .sound) end;
@@ -120,6 +124,8 @@ module _ (opening : List ℕ) (es : List Entry) (t : Table) (e : Entry) (tray : 
                   listed (t .options) opening (e ∷ es) purse-of (t .seats) i
                   (end .nothing-stays missingSeat (record { no-purse = refl; no-stake = refl; no-insurance = refl; no-hands = refl }))
                   (end-seat (t .options) opening es i e q purse-of (seatAt t i) (call .purses i));
+              drew = undecided .0 ∙ sym (simp (q .is-end));
+              decided = undecided .1 ∙ sym (simp (q .is-end));
               balance =
                   simp (q .no-fill, q .quiet .no-buy, q .no-credit, q .quiet .no-cash)
                   (omega (arith, end-money t tray purse-of shoe k cards (g .shaped) (g .sound) end, a .balance));

@@ -2,5 +2,6 @@
 -- does.
 pub mod Purse
 pub mod Quiet
+pub mod Events
 pub mod OneSeat
 pub mod EndOfRound

@@ -1,6 +1,6 @@
 -- A call of one seat keeps the agreement: the other seats' values stay, and the cards drawn grow by as many as the call takes.
 use mathlib.Core.Path.{_≡_, refl, sym, _∙_, ap, subst}
-use mathlib.Core.Bool.{false, cond, _||_}
+use mathlib.Core.Bool.{Bool, false, cond, _||_}
 use mathlib.Core.List.{List, _∷_}
 use Prim.Native.Nat.{ℕ, _+_, _*_, _<_}
 use native.Mathlib.Decide.{ℕ-discrete}
@@ -10,17 +10,19 @@ use lib.Seq.{getD-set-same, getD-set-other}
 use Rattle.table.specs.declared.Seat.{Seat}
 use Rattle.table.specs.declared.Shoe.{Shoe}
 use Rattle.table.specs.declared.Table.{Table}
-use Rattle.table.specs.Seat.{missingSeat}
+use Rattle.table.specs.Seat.{missingSeat, hands}
 use Rattle.table.specs.Shoe.{isFresh}
 use Rattle.table.specs.Table.{makeTable, seatAt}
 use Rattle.table.specs.Money.{allMoney}
 use Rattle.options.proofs.Facts.{in-range-facts}
 use Rattle.table.proofs.SeatChange.{SeatChange, change-shaped, change-sound}
-use Rattle.history.specs.Entry.{Entry, isOf, isDeal, isEnd, isLoad, isFill, isCredit, isBuy, isCash, amountOf}
+use Rattle.history.specs.Entry.{Entry, isOf, isDeal, isDrawing, isDecision, isEnd, isLoad, isFill, isCredit, isBuy, isCash, amountOf}
 use Rattle.history.specs.Rounds.{stakedBelow}
 use Rattle.history.specs.Cards.{Cards, makeCards, callTakes, bankAfter, cardsAfter, cardsOfHistory}
+use Rattle.history.specs.Hands.{handsIn}
 use Rattle.agreement.specs.Aids.Agrees.{SeatAgrees, CardsAgree, Agrees, Good}
 use Rattle.agreement.proofs.Quiet.{other-seat}
+use Rattle.agreement.proofs.Events.{Events, seat-events}
 
 module _ (opening : List ℕ) (es : List Entry) (t : Table) (e : Entry) (j tray : ℕ) (s : Seat) (shoe : Shoe) (k : ℕ) where
   abbrev after : Table
@@ -35,6 +37,8 @@ module _ (opening : List ℕ) (es : List Entry) (t : Table) (e : Entry) (j tray 
     pub same-order : shoe .order ≡ t .shoe .order
     pub more-drawn : shoe .drawn ≡ t .shoe .drawn + k
     pub same-fresh : isFresh shoe ≡ isFresh (t .shoe)
+    pub others : (i : ℕ) → (i ≡ j → ⊥) → handsIn (t .options) opening (e ∷ es) i ≡ handsIn (t .options) opening es i
+    pub events : Events e (hands (seatAt t j)) (hands s)
     pub seat : SeatAgrees (t .options) opening (e ∷ es) j s
     pub money : allMoney after + cond (isCredit e || isCash e) (amountOf e) 0 ≡ allMoney t + cond (isFill e || isBuy e) (amountOf e) 0
 
@@ -48,6 +52,7 @@ module _ (opening : List ℕ) (es : List Entry) (t : Table) (e : Entry) (j tray 
   one-seat nine within a call =
       let c = cardsOfHistory (t .options) opening es in
       let now : cardsOfHistory (t .options) opening (e ∷ es) ≡ makeCards (c .order) (c .fresh) (c .taken + k) (c .bank) = cards-after call c refl in
+      let (drew-now, decided-now) = seat-events t after j s refl (omega arith) e (call .events) in
       record {
         cards =
             subst (λ (x : Cards). CardsAgree x after) (sym now)
@@ -59,6 +64,8 @@ module _ (opening : List ℕ) (es : List Entry) (t : Table) (e : Entry) (j tray 
             });
         dealt = a .dealt ∙ sym (simp (call .not-end, call .not-deal));
         seats = λ i. each i (ℕ-discrete i j);
+        drew = drew-now ∙ ap (λ (b : Bool). isDrawing e || b) (a .drew) ∙ sym (simp (call .not-end));
+        decided = decided-now ∙ ap (λ (b : Bool). isDecision e || b) (a .decided) ∙ sym (simp (call .not-end));
         balance = omega (arith, call .money, a .balance);
       }
     where
@@ -68,7 +75,7 @@ module _ (opening : List ℕ) (es : List Entry) (t : Table) (e : Entry) (j tray 
           (rw (getD-set-same (t .seats) j s missingSeat (omega arith)) (call .seat))
       each i (no other) =
           rw (getD-set-other (t .seats) j i s missingSeat other)
-          (other-seat (t .options) opening es i e (call .not-end) (call .not-deal) (call .of-other i other) (seatAt t i) (a .seats i))
+          (other-seat (t .options) opening es i e (call .not-end) (call .of-other i other) (call .others i other) (seatAt t i) (a .seats i))
 
   -- such a call keeps the table good
   pub one-call : (came went : ℕ) → Good opening es t → SeatChange t j tray s shoe k came went → SeatCall → Good opening (e ∷ es) after

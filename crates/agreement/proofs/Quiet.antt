@@ -1,12 +1,13 @@
 -- What a call does not touch: the values of a seat that it does not name, the money of every seat where the call is quiet, and every value of a
 -- seat where it is of the house.
 use mathlib.Core.Path.{_≡_, sym, _∙_}
-use mathlib.Core.Bool.{true, false, not, and-false, and-eq-true-iff}
+use mathlib.Core.Bool.{true, false, not, _||_, and-false, and-eq-true-iff}
 use mathlib.Core.List.{List, [], _∷_}
 use Prim.Native.Nat.{ℕ, _<_}
 use native.Mathlib.Nat.{add-zero}
 use native.Mathlib.Omega.{arith}
 use Rattle.lists.proofs.Tests.{cond-same, all-at, or-eq-false}
+use lib.Dec.{eqb}
 use lib.IntN.{pos}
 use lib.ListN.{length, getD}
 use borrow.Author.Tests.{not-true}
@@ -14,24 +15,20 @@ use Rattle.lists.specs.Tests.{allOf}
 use Rattle.options.specs.declared.Options.{Options}
 use Rattle.table.specs.declared.Seat.{Seat}
 use Rattle.table.specs.Seat.{purse}
-use Rattle.history.specs.Entry.{Entry, isKind, isOf, isStake, isDeal, isInsure, isStand, isDraw, isDouble, isSplit, isSurrender, isEven, isFive, isEnd, isBuy, isCash, isClose, isVoid, isLoad}
+use Rattle.history.specs.Entry.{Entry, isKind, isOf, isStake, isDeal, isInsure, isStand, isDraw, isDouble, isSplit, isSurrender, isEven, isFive, isDrawing, isDecision, isEnd, isBuy, isCash, isClose, isVoid, isLoad}
 use Rattle.history.specs.Rounds.{stakeIn, insuranceIn}
 use Rattle.history.specs.Cards.{cardsAfter, callTakes, bankAfter, cardsOfHistory}
-use Rattle.history.specs.Hands.{handsAfter, handsIn, decide}
+use Rattle.history.specs.Hands.{turnIn, handsAfter, handsIn, decide}
 use Rattle.history.specs.Money.{lays, wins, laidIn, prizesIn, purseOf, prizeOf}
 use Rattle.agreement.specs.Aids.Agrees.{SeatAgrees}
 use Rattle.agreement.proofs.Purse.{purse-moves}
 
-module _ (o : Options) (opening : List ℕ) (es : List Entry) (i : ℕ) (e : Entry) (not-end : isEnd e ≡ false) (not-deal : isDeal e ≡ false) (not-of : isOf i e ≡ false) where
+module _ (o : Options) (opening : List ℕ) (es : List Entry) (i : ℕ) (e : Entry) (not-end : isEnd e ≡ false) (not-of : isOf i e ≡ false) where
   stake-other : stakeIn (e ∷ es) i ≡ stakeIn es i
   stake-other = simp (not-end, not-of, and-false)
 
   insurance-other : insuranceIn (e ∷ es) i ≡ insuranceIn es i
   insurance-other = simp (not-end, not-of, and-false)
-
-  hands-other : handsIn o opening (e ∷ es) i ≡ handsIn o opening es i
-  unfolding handsAfter
-  hands-other = simp (not-deal, not-end, not-of)
 
   lays-none : (S : ℕ) → lays i S e ≡ 0
   unfolding lays
@@ -50,8 +47,8 @@ module _ (o : Options) (opening : List ℕ) (es : List Entry) (i : ℕ) (e : Ent
   purse-other : (x : ℕ) → pos x ≡ purseOf o opening es i → pos x ≡ purseOf o opening (e ∷ es) i
   purse-other x p = purse-moves o opening es i e not-end x x p (simp (not-of, and-false) (omega (arith, lays-none (stakeIn es i), prize-none)))
 
-  pub other-seat : (s : Seat) → SeatAgrees o opening es i s → SeatAgrees o opening (e ∷ es) i s
-  other-seat s a =
+  pub other-seat : handsIn o opening (e ∷ es) i ≡ handsIn o opening es i → (s : Seat) → SeatAgrees o opening es i s → SeatAgrees o opening (e ∷ es) i s
+  other-seat hands-other s a =
       record {
         stake-is = a .stake-is ∙ sym stake-other;
         insurance-is = a .insurance-is ∙ sym insurance-other;
@@ -60,6 +57,19 @@ module _ (o : Options) (opening : List ℕ) (es : List Entry) (i : ℕ) (e : Ent
         prizes-are = a .prizes-are ∙ sym prizes-other;
         purse-is = purse-other (purse s) (a .purse-is);
       }
+
+-- a call that is no decision changes no hand, whosever turn it is
+pub hands-stay : (o : Options) (opening : List ℕ) (es : List Entry) (i : ℕ) (e : Entry) → isDeal e ≡ false → isEnd e ≡ false → isDecision e ≡ false
+    → handsIn o opening (e ∷ es) i ≡ handsIn o opening es i
+unfolding handsAfter decide
+hands-stay o opening es i e no-deal no-end none =
+    let (others, draws) = or-eq-false (isStand e || isSurrender e || isEven e || isFive e) (isDrawing e) none in
+    let (three, five) = or-eq-false (isStand e || isSurrender e || isEven e) (isFive e) others in
+    let (two, even) = or-eq-false (isStand e || isSurrender e) (isEven e) three in
+    let (stand, surrender) = or-eq-false (isStand e) (isSurrender e) two in
+    let (both, split) = or-eq-false (isDraw e || isDouble e) (isSplit e) draws in
+    let (draw, double) = or-eq-false (isDraw e) (isDouble e) both in
+    simp (no-deal, no-end, surrender, stand, draw, double, split, even, five) (cond-same (eqb i (turnIn o (cardsOfHistory o opening es) (λ k. handsIn o opening es k))) (handsIn o opening es i))
 
 -- a call of none of these kinds is not of the one at a place
 pub none-of : (e : Entry) (kinds : List ℕ) (i : ℕ) → allOf (λ k. not (isKind k e)) kinds ≡ true → i < length kinds → isKind (getD kinds i 0) e ≡ false
@@ -103,10 +113,7 @@ pub record House (e : Entry) : Type 0 where
   pub quiet : Quiet e
   pub no-end : isEnd e ≡ false
   pub no-deal : isDeal e ≡ false
-  pub no-stand : isStand e ≡ false
-  pub no-surrender : isSurrender e ≡ false
-  pub no-even : isEven e ≡ false
-  pub no-five : isFive e ≡ false
+  pub no-decision : isDecision e ≡ false
 
 -- the kinds that name a seat, deal, or end a round
 abbrev pub otherKinds : List ℕ
@@ -119,21 +126,12 @@ house e h =
       quiet = record { no-deal = deal; no-buy = buy; no-cash = cash; no-stake = stake; no-insure = insure; no-draw = draw; no-double = double; no-split = split };
       no-end = simp (close, void);
       no-deal = deal;
-      no-stand = stand;
-      no-surrender = surrender;
-      no-even = even;
-      no-five = five;
+      no-decision = simp (stand, surrender, even, five, draw, double, split);
     }
 
 module _ (o : Options) (opening : List ℕ) (es : List Entry) (i : ℕ) (e : Entry) (h : House e) where
   abbrev q : Quiet e
   q = h .quiet
-
-  hands-house : handsIn o opening (e ∷ es) i ≡ handsIn o opening es i
-  unfolding handsAfter decide
-  hands-house =
-      simp (h .no-deal, h .no-end, h .no-stand, q .no-draw, q .no-double, q .no-split, h .no-surrender, h .no-even, h .no-five)
-      (cond-same (isOf i e) (handsIn o opening es i))
 
   pub house-seat : (s : Seat) → SeatAgrees o opening es i s → SeatAgrees o opening (e ∷ es) i s
   house-seat s a =
@@ -142,7 +140,7 @@ module _ (o : Options) (opening : List ℕ) (es : List Entry) (i : ℕ) (e : Ent
       record {
         stake-is = a .stake-is ∙ sym (simp (h .no-end, q .no-stake));
         insurance-is = a .insurance-is ∙ sym (simp (h .no-end, q .no-insure));
-        hands-are = a .hands-are ∙ sym hands-house;
+        hands-are = a .hands-are ∙ sym (hands-stay o opening es i e (h .no-deal) (h .no-end) (h .no-decision));
         laid-is = a .laid-is ∙ sym (simp (h .no-end) (omega (arith, lays-none)));
         prizes-are = a .prizes-are ∙ sym (simp (h .no-end) (omega (arith, wins-none)));
         purse-is = purse-moves o opening es i e (h .no-end) (purse s) (purse s) (a .purse-is) (simp (q .no-buy, q .no-cash) (omega (arith, lays-none, wins-none)));

@@ -1,7 +1,7 @@
 -- A good table meets every sentence of the claim.
-use mathlib.Core.Path.{_≡_, refl, sym, _∙_, ap}
+use mathlib.Core.Path.{_≡_, refl, sym, _∙_, ap, ap₂}
 use mathlib.Core.Bool.{false, not}
-use mathlib.Core.List.{List, [], _∷_, _++_}
+use mathlib.Core.List.{List, [], _∷_, _++_, map}
 use Prim.Native.Nat.{ℕ, _+_, _≤_}
 use native.Mathlib.Decide.{decLe}
 use native.Mathlib.Omega.{arith}
@@ -10,6 +10,8 @@ use borrow.Author.Tests.{ltb-false}
 use Rattle.lists.specs.Sum.{sumOf, isIt}
 use Rattle.lists.proofs.Sums.{sum-append}
 use Rattle.lists.proofs.Differences.{diff-pos, diff-sub, diff-is}
+use Rattle.rules.specs.SeatHand.{Played}
+use Rattle.payment.specs.Wager.{wager}
 use Rattle.table.specs.declared.Table.{Table}
 use Rattle.table.specs.Seat.{missingSeat, hands}
 use Rattle.table.specs.Table.{seatAt, handCards, bankCards, isDealt, tableOrder, tableShoe, tableDrawn, tableDiscards}
@@ -50,8 +52,13 @@ module _ (opening : List ℕ) (es : List Entry) (t : Table) (g : Good opening es
         balance = diff-is (diff-sub (diff-pos (cameIn es)) (diff-pos (wentOut es))) (allMoney t) (omega (arith, a .balance));
         purse-is = λ i. a .seats i .purse-is;
         layout-is = λ i. a .seats i .laid-is;
+        stake-is = λ i. a .seats i .stake-is;
+        insurance-is = λ i. a .seats i .insurance-is;
         hands-are = λ i. a .seats i .hands-are;
+        wagers-are = λ i. ap₂ (λ (S : ℕ) (hs : List Played). map (wager S) hs) (a .seats i .stake-is) (a .seats i .hands-are);
         bank-is = c .bank;
+        drew-is = a .drew;
+        decided-is = a .decided;
         hands-outside = λ e i. sym (a .seats i .hands-are) ∙ no-seat-hands e i;
         bank-outside = λ e. sym (c .bank) ∙ empty-list (bankCards t) (omega (arith, ltb-false 0 (length (bankCards t)) (none-dealt e)));
         shoe-is = rw (← c .taken, ← c .order) (take-append-drop (t .shoe .drawn) (tableOrder t));

@@ -2,19 +2,21 @@
 -- from the table of an accepted opening, each call on the table that the one before returned. A field for each sentence.
 use mathlib.Core.Path.{_≡_}
 use mathlib.Core.Bool.{false}
-use mathlib.Core.List.{List, [], _++_}
+use mathlib.Core.List.{List, [], _++_, map}
 use Prim.Native.Nat.{ℕ, _+_, _<_}
 use lib.IntN.{pos, _-ℤ_}
 use lib.ListN.{length}
 use Rattle.lists.specs.Sum.{countOf}
 use Rattle.options.specs.declared.Options.{Options}
 use Rattle.table.specs.declared.Table.{Table}
-use Rattle.table.specs.Seat.{purse, hands, laid}
+use Rattle.payment.specs.Wager.{wager}
+use Rattle.table.specs.Seat.{purse, stake, insurance, hands, laid}
 use Rattle.table.specs.Table.{seatAt, handCards, bankCards, tableShoe, cardsLeft, tableDiscards}
+use Rattle.table.specs.Progress.{anyDrew, anyDecided}
 use Rattle.table.specs.Money.{layout, purses}
 use Rattle.table.specs.Broken.{broken}
 use Rattle.history.specs.Entry.{Entry}
-use Rattle.history.specs.Rounds.{isDealtRound}
+use Rattle.history.specs.Rounds.{isDealtRound, decidedIn, drewIn, stakeIn, insuranceIn}
 use Rattle.history.specs.Cards.{cardsOfHistory, drawnCards}
 use Rattle.history.specs.Hands.{handsIn}
 use Rattle.history.specs.Money.{cameIn, wentOut, laidIn, purseOf}
@@ -28,9 +30,18 @@ pub record Claim (o : Options) (opening : List ℕ) (es : List Entry) (t : Table
   -- each seat's purse and layout money equal the history's
   pub purse-is : (i : ℕ) → pos (purse (seatAt t i)) ≡ purseOf o opening es i
   pub layout-is : (i : ℕ) → laid (seatAt t i) ≡ laidIn es i
+  -- and so do its stake and its insurance
+  pub stake-is : (i : ℕ) → stake (seatAt t i) ≡ stakeIn es i
+  pub insurance-is : (i : ℕ) → insurance (seatAt t i) ≡ insuranceIn es i
   -- the hands of each seat, their number and their cards place by place, and the bank's cards equal the history's
   pub hands-are : (i : ℕ) → hands (seatAt t i) ≡ handsIn o opening es i
+  -- and each hand's W
+  pub wagers-are : (i : ℕ) → map (wager (stake (seatAt t i))) (hands (seatAt t i)) ≡ map (wager (stakeIn es i)) (handsIn o opening es i)
   pub bank-is : bankCards t ≡ cardsOfHistory o opening es .bank
+  -- what number 12 asks of the table's hands is what the accepted calls of the round say: that somebody has drawn, doubled or split, and that a decision
+  -- was taken
+  pub drew-is : anyDrew t ≡ drewIn es
+  pub decided-is : anyDecided t ≡ decidedIn es
   -- none outside a round that the history calls dealt
   pub hands-outside : isDealtRound es ≡ false → (i : ℕ) → handsIn o opening es i ≡ []
   pub bank-outside : isDealtRound es ≡ false → cardsOfHistory o opening es .bank ≡ []

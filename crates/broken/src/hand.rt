@@ -1,11 +1,26 @@
-// Hands of any table value: 2 to 20 cards that could have been played, codes in range (docs/BROKEN.md, 4).
+// Hands of any table value (docs/BROKEN.md, 4): 2 to 20 cards that could have been played, and an origin and an ending that fit them, their seat's
+// number of hands `many` and the up card `up`.
 ghost use mathlib.Core.Path.{_≡_};
+ghost use Prim.Native.Nat.{_<_};
 ghost use lib.ListN.{take};
 ghost use Rattle.lists.specs.Tests.{allOf};
 ghost use Rattle.cards.specs.Hand.{cardsOf};
 ghost use Rattle.cards.specs.Length.{couldBePlayed};
-ghost use Rattle.table.specs.Broken.{soundHand};
+ghost use Rattle.rules.specs.SeatHand.{playedOf};
+ghost use Rattle.table.specs.Broken.{soundOrigin, soundDouble, soundSurrender, soundEnding, soundHand};
+use cards::card::is_ace;
 use cards::hand::Hand;
+use options::Options;
+use rules::open_calls::even_open;
+use rules::open_calls::five_open;
+use rules::seat_hand::BY_DOUBLE;
+use rules::seat_hand::BY_EVEN;
+use rules::seat_hand::BY_FIVE;
+use rules::seat_hand::BY_STAND;
+use rules::seat_hand::BY_SURRENDER;
+use rules::seat_hand::DEALT;
+use rules::seat_hand::SPLIT;
+use rules::seat_hand::SPLIT_ACES;
 use rules::seat_hand::SeatHand;
 use rules::seat_hand::SeatHands;
 
@@ -17,22 +32,90 @@ fn could_be_played(h: Hand) -> bool
     n < 12 || (n as u32) < cards::total::low_sum(h)
 }
 
-fn sound_hand(h: SeatHand) -> bool
-    ensures { λ r. ⌜ r ≡ soundHand h ⌝ }
+// A seat's only hand was dealt, any other comes from a split, of aces where its first card is one. It asks that there is a first card.
+fn sound_origin(many: u8, h: SeatHand) -> bool
+    requires { ⌜ 0 < h .hand .count ⌝ }
+    ensures { λ r. ⌜ r ≡ soundOrigin many (playedOf h) ⌝ }
+{
+    let hand = h.hand;
+    let first = hand.cards[0];
+    if many == 1 {
+        return h.origin == DEALT;
+    }
+    if is_ace(first) {
+        return h.origin == SPLIT_ACES;
+    }
+    h.origin == SPLIT
+}
+
+// A doubled hand has three cards, is not from split aces, and its first two permitted the double.
+fn sound_double(o: Options, h: SeatHand) -> bool
+    ensures { λ r. ⌜ r ≡ soundDouble o (playedOf h) ⌝ }
+{
+    let hand = h.hand;
+    if hand.count != 3 {
+        return false;
+    }
+    if h.origin == SPLIT_ACES {
+        return false;
+    }
+    let cards = hand.cards;
+    let two = Hand { cards, count: 2 };
+    let sum = cards::total::total(two);
+    sum < 21 && (o.double == 1 || sum == 11)
+}
+
+// A surrendered hand is its seat's only one, of two cards, against no ace.
+fn sound_surrender(up: u8, many: u8, h: SeatHand) -> bool
+    ensures { λ r. ⌜ r ≡ soundSurrender up many (playedOf h) ⌝ }
+{
+    let hand = h.hand;
+    if many != 1 {
+        return false;
+    }
+    if hand.count != 2 {
+        return false;
+    }
+    !is_ace(up)
+}
+
+// Even and five only where they are open; what is not ended by a decision, or by stand, fits every hand.
+fn sound_ending(o: Options, up: u8, many: u8, h: SeatHand) -> bool
+    ensures { λ r. ⌜ r ≡ soundEnding o up many (playedOf h) ⌝ }
+{
+    let ended = h.ended;
+    if ended == BY_DOUBLE {
+        return sound_double(o, h);
+    }
+    if ended == BY_SURRENDER {
+        return sound_surrender(up, many, h);
+    }
+    if ended == BY_EVEN {
+        return even_open(up, h);
+    }
+    if ended == BY_FIVE {
+        return five_open(o, up, h);
+    }
+    ended <= BY_STAND
+}
+
+fn sound_hand(o: Options, up: u8, many: u8, h: SeatHand) -> bool
+    ensures { λ r. ⌜ r ≡ soundHand o up many h ⌝ }
 {
     let hand = h.hand;
     2 <= hand.count
-        && (hand.count <= 20 && (could_be_played(hand) && (h.origin <= 2 && h.ended <= 5)))
+        && (hand.count <= 20
+            && (could_be_played(hand) && (sound_origin(many, h) && sound_ending(o, up, many, h))))
 }
 
 // Every hand in use.
-pub(crate) fn all_sound(s: SeatHands) -> bool
-    ensures { λ r. ⌜ r ≡ allOf soundHand (take (s .many) (s .places)) ⌝ }
+pub(crate) fn all_sound(o: Options, up: u8, s: SeatHands) -> bool
+    ensures { λ r. ⌜ r ≡ allOf (soundHand o up (s .many)) (take (s .many) (s .places)) ⌝ }
 {
     let n = rules::seat_hand::used(s);
     for i in 0usize..n {
         let h = s.places[i];
-        if !sound_hand(h) {
+        if !sound_hand(o, up, s.many, h) {
             return false;
         }
     }

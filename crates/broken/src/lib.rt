@@ -32,7 +32,7 @@ fn surveyed(t: Table) -> Survey
 {
     let o = t.options;
     let dealt = is_dealt(t);
-    let ace = cards::card::is_ace(up(t));
+    let card = up(t);
     let mut sums = Sums {
         laid: 0,
         prizes: 0,
@@ -43,7 +43,7 @@ fn surveyed(t: Table) -> Survey
     for i in 0usize..9 {
         let s = seats[i];
         let m = seat_sums(o, s);
-        if !sound_seat(o, dealt, ace, i, s, m) {
+        if !sound_seat(o, dealt, card, i, s, m) {
             return Survey { sound: false, sums };
         }
         sums = plus(sums, m);

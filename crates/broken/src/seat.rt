@@ -1,5 +1,5 @@
 // Whether a seat of any table value is sound (docs/BROKEN.md, 4): its number, stake, insurance, hands and prizes, tested as
-// `table/specs/Broken.antt` does. `dealt`: a round is dealt; `ace`: the up card is one. Every damaged value is taken.
+// `table/specs/Broken.antt` does. `in_round`: a round is dealt; `up`: the up card. Every damaged value is taken.
 ghost use mathlib.Core.Path.{_≡_};
 ghost use Prim.Native.Nat.{_+_};
 ghost use lib.Dec.{leb};
@@ -7,6 +7,7 @@ ghost use Rattle.table.specs.Seat.{purse};
 ghost use Rattle.table.specs.Broken.{soundNumber, soundStake, soundInsurance, soundHands, soundSeat};
 ghost use Rattle.money.specs.Sums.{seatSums};
 use crate::hand::all_sound;
+use cards::card::is_ace;
 use money::sums::Sums;
 use options::Options;
 use options::permitted::insurance_permitted;
@@ -30,24 +31,25 @@ fn sound_stake(o: Options, s: Seat) -> bool
     m.stake == 0 || stake_permitted(o, m.stake as u64)
 }
 
-fn sound_insurance(o: Options, dealt: bool, ace: bool, s: Seat) -> bool
-    ensures { λ r. ⌜ r ≡ soundInsurance o dealt ace s ⌝ }
+fn sound_insurance(o: Options, in_round: bool, up: u8, s: Seat) -> bool
+    ensures { λ r. ⌜ r ≡ soundInsurance o in_round up s ⌝ }
 {
     let m = s.money;
     m.insurance == 0
-        || (dealt && (ace && (0 < m.stake && insurance_permitted(o, m.stake, m.insurance as u64))))
+        || (in_round
+            && (is_ace(up) && (0 < m.stake && insurance_permitted(o, m.stake, m.insurance as u64))))
 }
 
 // No hand and none due, or hands within the option in a dealt round, each of them sound.
-fn sound_hands(o: Options, dealt: bool, s: Seat) -> bool
-    ensures { λ r. ⌜ r ≡ soundHands o dealt s ⌝ }
+fn sound_hands(o: Options, in_round: bool, up: u8, s: Seat) -> bool
+    ensures { λ r. ⌜ r ≡ soundHands o in_round up s ⌝ }
 {
     let m = s.money;
     let hands = s.hands;
     if hands.many == 0 {
-        return !dealt || !(0 < m.stake);
+        return !in_round || !(0 < m.stake);
     }
-    hands.many <= o.hands && (dealt && (0 < m.stake && all_sound(hands)))
+    hands.many <= o.hands && (in_round && (0 < m.stake && all_sound(o, up, hands)))
 }
 
 // The prizes are within purse and laid, compared so that no sum wraps.
@@ -59,12 +61,12 @@ fn sound_prizes(s: Seat, m: Sums) -> bool
 }
 
 // Public for broken alone, which works the seat's sums out once: so it asks that `m` is these.
-pub(crate) fn sound_seat(o: Options, dealt: bool, ace: bool, i: usize, s: Seat, m: Sums) -> bool
+pub(crate) fn sound_seat(o: Options, in_round: bool, up: u8, i: usize, s: Seat, m: Sums) -> bool
     requires { ⌜ m ≡ seatSums o s ⌝ }
-    ensures { λ r. ⌜ r ≡ soundSeat o dealt ace i s ⌝ }
+    ensures { λ r. ⌜ r ≡ soundSeat o in_round up i s ⌝ }
 {
     sound_number(o, i, s)
         && (sound_stake(o, s)
-            && (sound_insurance(o, dealt, ace, s)
-                && (sound_hands(o, dealt, s) && sound_prizes(s, m))))
+            && (sound_insurance(o, in_round, up, s)
+                && (sound_hands(o, in_round, up, s) && sound_prizes(s, m))))
 }

@@ -17,6 +17,7 @@ use Rattle.table.specs.declared.Seat.{Seat}
 use Rattle.table.specs.declared.Table.{Table}
 use Rattle.table.specs.Seat.{missingSeat, seatCards}
 use Rattle.table.specs.Shoe.{validOrder, newShoe}
+use Rattle.table.specs.Progress.{anyDrew, anyDecided}
 use Rattle.table.specs.Table.{withShoe, seatAt, isDealt, bankCards}
 use Rattle.table.specs.Broken.{broken}
 use Rattle.table.specs.Faces.{outCards}
@@ -104,7 +105,7 @@ load-kept t order shaped sound e =
 
 pub load-good : (opening : List ℕ) (es : List Entry) (t : Table) (order : List ℕ) → Good opening es t → first (loadConditions t order) ≡ 0
     → Good opening (entry Load order ∷ es) (loadEffect t order)
-unfolding loadEffect allOf cardsAfter
+unfolding loadEffect allOf cardsAfter anyDrew anyDecided
 load-good opening es t order g e =
     let (shaped, sound) = load-kept t order (g .shaped) (g .sound) e in
     let a = g .agrees in
@@ -116,6 +117,8 @@ load-good opening es t order g e =
             cards = record { order = loaded (t .options .decks) order (load-accepted t order e .valid); taken = refl; fresh = refl; bank = a .cards .bank };
             dealt = a .dealt;
             seats = λ i. house-seat (t .options) opening es i (entry Load order) (house (entry Load order) refl) (seatAt t i) (a .seats i);
+            drew = a .drew;
+            decided = a .decided;
             balance = omega (arith, a .balance);
           };
     }

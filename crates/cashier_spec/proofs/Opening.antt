@@ -8,18 +8,19 @@ use native.Mathlib.Omega.{arith}
 use lib.ListN.{length, getD, replicate, length-replicate, getD-replicate, List·getD-eq-default}
 use borrow.Author.Tests.{eq-eqb, not-false}
 use Rattle.lists.specs.Sum.{sumOf}
-use Rattle.lists.specs.Tests.{allOf}
+use Rattle.lists.specs.Tests.{anyOf, allOf}
 use Rattle.lists.specs.Flat.{flat}
 use Rattle.call.specs.Refusal.{first}
 use Rattle.call.proofs.Refusals.{none-hold}
-use Rattle.cards.specs.Card.{isAce}
 use Rattle.options.specs.declared.Options.{Options}
 use Rattle.options.specs.Ranges.{inRange}
 use Rattle.options.proofs.Facts.{in-range-facts}
 use Rattle.rules.specs.declared.seat_hand.SeatHand.{SeatHand}
+use Rattle.rules.specs.Drew.{seatDrew}
 use Rattle.table.specs.Seat.{emptySeat, missingSeat, missingPlace, emptyPlace, laid, prizes}
 use Rattle.table.specs.Shoe.{validOrder}
 use Rattle.table.specs.Table.{seatAt, isDealt, up}
+use Rattle.table.specs.Progress.{anyDrew, anyDecided}
 use Rattle.table.specs.Shape.{Shaped, ShapedSeat}
 use Rattle.table.specs.Aids.Sound.{Sound, SoundSeat}
 use Rattle.agreement.specs.Aids.Agrees.{SeatAgrees, Agrees, Good}
@@ -51,7 +52,7 @@ empty-shaped = record { four-places = refl; twenty-cards = λ p h. ap (λ (x : S
 
 -- a seat that holds nothing
 module _ (o : Options) (order : List ℕ) (i : ℕ) where
-  empty-sound : SoundSeat o (isDealt (openTable o order)) (isAce (up (openTable o order))) i emptySeat
+  empty-sound : SoundSeat o (isDealt (openTable o order)) (up (openTable o order)) i emptySeat
   unfolding prizes laid sumOf
   empty-sound =
       record {
@@ -99,7 +100,7 @@ module _ (o : Options) (order : List ℕ) (a : OpeningAccepted o order) where
         discarded = omega arith;
         faces = λ b h. refl;
         number = refl;
-        seats = λ i h. subst (SoundSeat o (isDealt (openTable o order)) (isAce (up (openTable o order))) i) (sym (empty-at i h)) (empty-sound o order i);
+        seats = λ i h. subst (SoundSeat o (isDealt (openTable o order)) (up (openTable o order)) i) (sym (empty-at i h)) (empty-sound o order i);
         bank = omega arith;
         round = λ dealt. absurd (true≢false (sym dealt));
         money = omega arith;
@@ -107,12 +108,14 @@ module _ (o : Options) (order : List ℕ) (a : OpeningAccepted o order) where
       }
 
   open-agrees : Agrees order [] (openTable o order)
-  unfolding sumOf laid
+  unfolding sumOf laid anyDrew anyDecided seatDrew anyOf
   open-agrees =
       record {
         cards = record { order = loaded (o .decks) order (a .valid); taken = refl; fresh = refl; bank = refl };
         dealt = refl;
         seats = λ i. seat-agrees o order i;
+        drew = refl;
+        decided = refl;
         balance = refl;
       }
 

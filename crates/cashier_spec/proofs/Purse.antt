@@ -10,11 +10,9 @@ use lib.ListN.{getD}
 use borrow.Author.Tests.{leb-false, eq-eqb, ne-eqb}
 use Rattle.lists.specs.Sum.{sumOf}
 use Rattle.lists.specs.Tests.{allOf}
-use Rattle.lists.proofs.Tests.{cond-same}
-use Rattle.cards.specs.Card.{isAce}
 use Rattle.table.specs.declared.Seat.{Seat}
 use Rattle.table.specs.declared.Table.{Table}
-use Rattle.table.specs.Seat.{money, makeSeat, purse, stake, insurance}
+use Rattle.table.specs.Seat.{money, makeSeat, purse, stake, insurance, hands}
 use Rattle.table.specs.Table.{withSeat, seatAt, noSuchSeat, isDealt, up}
 use Rattle.table.specs.Money.{mostMoney, allMoney}
 use Rattle.table.specs.Broken.{broken}
@@ -23,14 +21,15 @@ use Rattle.table.specs.Shape.{Shaped}
 use Rattle.table.specs.Aids.Sound.{Sound, SoundSeat}
 use Rattle.table.proofs.Facts.{seat-of-nine, laid-stake, no-prizes}
 use Rattle.table.proofs.SeatChange.{SeatChange, change-shaped, change-money, change-sound}
-use Rattle.history.specs.Entry.{Entry, isKind, isOf, isBuy, isCash, isEnd, amountOf}
+use Rattle.history.specs.Entry.{Entry, isKind, isOf, isBuy, isCash, isDecision, isEnd, amountOf}
 use Rattle.history.specs.Rounds.{stakeIn}
 use Rattle.history.specs.Cards.{callTakes}
-use Rattle.history.specs.Hands.{handsAfter, decide, handsIn}
+use Rattle.history.specs.Hands.{handsIn}
 use Rattle.history.specs.Money.{lays, wins, prizeOf}
 use Rattle.agreement.specs.Aids.Agrees.{SeatAgrees, Good}
 use Rattle.agreement.proofs.Purse.{purse-moves}
-use Rattle.agreement.proofs.Quiet.{none-of}
+use Rattle.agreement.proofs.Quiet.{none-of, hands-stay}
+use Rattle.agreement.proofs.Events.{no-event}
 use Rattle.agreement.proofs.OneSeat.{one-call}
 use Rattle.cashier_spec.proofs.BetweenRounds.{no-hand}
 
@@ -63,7 +62,7 @@ module _ {t : Table} {j p S came went : ℕ} (moves : PurseMoves t j p S came we
   not-dealt : {A : Type 0} → isDealt t ≡ true → A
   not-dealt dealt = absurd (true≢false (sym dealt ∙ moves .seat .between))
 
-  sound-moved : SoundSeat (t .options) (isDealt t) (isAce (up t)) j (moved t j p S)
+  sound-moved : SoundSeat (t .options) (isDealt t) (up t) j (moved t j p S)
   sound-moved =
       record {
         beyond = λ h. absurd (omega (arith, moves .seat .within));
@@ -126,11 +125,11 @@ module _ {opening : List ℕ} {es : List Entry} {t : Table} {j p S came went : �
   unfolding wins
   prize-none = simp (no 3 (omega arith), no 4 (omega arith), and-false)
 
-  hands-stay : handsIn (t .options) opening (e ∷ es) j ≡ handsIn (t .options) opening es j
-  unfolding handsAfter decide
-  hands-stay =
-      simp (no 0 (omega arith), not-end, no 2 (omega arith), no 3 (omega arith), no 4 (omega arith), no 5 (omega arith), no 6 (omega arith), no 7 (omega arith), no 8 (omega arith))
-      (cond-same (isOf j e) (handsIn (t .options) opening es j))
+  no-decision : isDecision e ≡ false
+  no-decision = simp (no 2 (omega arith), no 6 (omega arith), no 7 (omega arith), no 8 (omega arith), no 3 (omega arith), no 4 (omega arith), no 5 (omega arith))
+
+  same-hands : (i : ℕ) → handsIn (t .options) opening (e ∷ es) i ≡ handsIn (t .options) opening es i
+  same-hands i = hands-stay (t .options) opening es i e (no 0 (omega arith)) not-end no-decision
 
   seat-agrees : SeatAgrees (t .options) opening (e ∷ es) j (moved t j p S)
   seat-agrees =
@@ -143,7 +142,7 @@ module _ {opening : List ℕ} {es : List Entry} {t : Table} {j p S came went : �
       record {
         stake-is = told .stakes;
         insurance-is = a .insurance-is ∙ sym (simp (not-end, no 1 (omega arith)));
-        hands-are = a .hands-are ∙ sym hands-stay;
+        hands-are = a .hands-are ∙ sym (same-hands j);
         laid-is = simp not-end (omega (arith, a .laid-is, told .lays-more));
         prizes-are = simp not-end (omega (arith, a .prizes-are, prize-none));
         purse-is =
@@ -165,6 +164,8 @@ module _ {opening : List ℕ} {es : List Entry} {t : Table} {j p S came went : �
         same-order = refl;
         more-drawn = omega arith;
         same-fresh = refl;
+        others = λ i other. same-hands i;
+        events = no-event e (hands (seatAt t j)) no-decision;
         seat = seat-agrees;
         money =
             simp (no 12 (omega arith), no 13 (omega arith))

@@ -6,12 +6,14 @@ use Prim.Native.Nat.{ℕ, _+_, _≤_}
 use native.Mathlib.Omega.{arith}
 use Rattle.table.specs.declared.Table.{Table}
 use Rattle.table.specs.Table.{withTray, seatAt, isDealt}
+use Rattle.table.specs.Progress.{anyDrew, anyDecided}
 use Rattle.table.specs.Money.{mostMoney, allMoney}
 use Rattle.table.specs.Shape.{Shaped}
 use Rattle.table.specs.Aids.Sound.{Sound}
 use Rattle.history.specs.Entry.{Entry, isFill, isCredit, isBuy, isCash, isLoad, amountOf}
 use Rattle.agreement.specs.Aids.Agrees.{Good}
 use Rattle.agreement.proofs.Quiet.{House, house-seat, house-cards}
+use Rattle.agreement.proofs.Events.{no-drawing}
 
 -- what such a call must give: `came` is money that comes onto the table by it, `went` money that leaves it
 pub record TrayMoves (t : Table) (tray came went : ℕ) : Type 0 where
@@ -44,6 +46,7 @@ module _ {t : Table} {tray came went : ℕ} (moves : TrayMoves t tray came went)
       → cond (isCredit e || isCash e) (amountOf e) 0 ≡ went
       → Good opening es t
       → Good opening (e ∷ es) (withTray t tray)
+  unfolding anyDrew anyDecided
   tray-good opening es e q no-load tray-in tray-out g =
       let (shaped, sound) = tray-kept (g .shaped) (g .sound) in
       let a = g .agrees in
@@ -57,6 +60,8 @@ module _ {t : Table} {tray came went : ℕ} (moves : TrayMoves t tray came went)
                   (record { order = a .cards .order; taken = a .cards .taken; fresh = a .cards .fresh; bank = a .cards .bank });
               dealt = a .dealt ∙ sym (simp (q .no-end, q .no-deal));
               seats = λ i. house-seat (t .options) opening es i e q (seatAt t i) (a .seats i);
+              drew = a .drew ∙ sym (simp (q .no-end, no-drawing e (q .no-decision)));
+              decided = a .decided ∙ sym (simp (q .no-end, q .no-decision));
               balance = omega (arith, a .balance, moves .pays, tray-in, tray-out);
             };
       }

@@ -17,7 +17,6 @@ use Rattle.lists.proofs.Differences.{diff-pos, diff-add}
 use Rattle.call.specs.declared.Call.the-variants.{Close}
 use Rattle.call.specs.Refusal.{first}
 use Rattle.call.proofs.Refusals.{none-hold}
-use Rattle.cards.specs.Card.{isAce}
 use Rattle.options.specs.declared.Options.{Options}
 use Rattle.payment.specs.Bank.{mustDraw, scoreOf}
 use Rattle.payment.specs.Wager.{wager}
@@ -72,7 +71,7 @@ module _ (t : Table) (shaped : Shaped t) (ok : CloseAccepted t) where
   few : o .hands ≤ 4
   few = sound-options t (ok .sound) .hands-most
 
-  in-round : (i : ℕ) → i < 9 → SoundSeat o true (isAce (up t)) i (seatAt t i)
+  in-round : (i : ℕ) → i < 9 → SoundSeat o true (up t) i (seatAt t i)
   in-round = dealt-seat t (ok .sound) (ok .dealt)
 
   covered : sumOf (seatBack o (closeScore t)) (t .seats) ≤ t .tray + layout t
@@ -109,7 +108,7 @@ module _ (t : Table) (shaped : Shaped t) (ok : CloseAccepted t) where
     where
       go : Dec (9 ≤ i) → laid (seatAt t i) ≡ sumOf (wager (stake (seatAt t i))) (hands (seatAt t i)) + insurance (seatAt t i)
       go (yes h) = rw (List·getD-eq-default (t .seats) missingSeat {n = i} (omega (arith, shaped .nine-seats))) refl
-      go (no h) = laid-wagers o (isAce (up t)) i (seatAt t i) (in-round i (omega arith)) (shaped .seats i (omega arith) .four-places) few
+      go (no h) = laid-wagers o (up t) i (seatAt t i) (in-round i (omega arith)) (shaped .seats i (omega arith) .four-places) few
 
   kept : Shaped (closeEffect t) × Sound (closeEffect t)
   unfolding closeEffect

@@ -45,7 +45,7 @@ unfolding insurancePay
 insurance-diff bank I = net-diff (insurancePay bank I)
 
 -- in a dealt round a seat has laid the wagers of its hands and its insurance, which is at most its stake
-module _ (o : Options) (ace : Bool) (i : ℕ) (s : Seat) (sound : SoundSeat o true ace i s) where
+module _ (o : Options) (up i : ℕ) (s : Seat) (sound : SoundSeat o true up i s) where
   insured-most : insurance s ≤ stake s
   insured-most = go (decLe (insurance s) 0)
     where
@@ -63,7 +63,7 @@ module _ (o : Options) (ace : Bool) (i : ℕ) (s : Seat) (sound : SoundSeat o tr
           let unstaked = sound .waiting none refl in
           rw (no-hands s none) (omega (arith, insured-most))
       go (no h) =
-          let many = hands-many s four (most-many o true ace i s few sound) in
+          let many = hands-many s four (most-many o true up i s few sound) in
           simp (ne-eqb (length (hands s)) 0 (λ none. omega arith))
 
   -- whatever the length of its places, those are at most what it laid
@@ -81,4 +81,4 @@ module _ (o : Options) (ace : Bool) (i : ℕ) (s : Seat) (sound : SoundSeat o tr
   pub back-most : o .hands ≤ 4 → (bank : Score) → seatBack o bank s + prizes o s ≤ laid s + seatCover s
   unfolding seatBack prizes
   back-most few bank =
-      omega (arith, seat-cover o bank (stake s) (hands s) (insurance s) (few-hands o true ace i s few sound) insured-most, wagers-most)
+      omega (arith, seat-cover o bank (stake s) (hands s) (insurance s) (few-hands o true up i s few sound) insured-most, wagers-most)

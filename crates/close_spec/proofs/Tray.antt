@@ -7,7 +7,6 @@ use native.Mathlib.Omega.{arith}
 use lib.ListN.{length}
 use Rattle.lists.specs.Sum.{sumOf}
 use Rattle.lists.proofs.Sums.{sum-plus, sum-at-most}
-use Rattle.cards.specs.Card.{isAce}
 use Rattle.payment.specs.declared.bank.Score.{Score}
 use Rattle.table.specs.declared.Table.{Table}
 use Rattle.table.specs.Seat.{missingSeat, laid, prizes, seatCover}
@@ -24,15 +23,15 @@ module _ (t : Table) (sound : Sound t) where
   tray-limit = omega (arith, sound .money)
 
   module _ (dealt : isDealt t ≡ true) where
-    pub dealt-seat : (i : ℕ) → i < 9 → SoundSeat (t .options) true (isAce (up t)) i (seatAt t i)
-    dealt-seat i h = subst (λ (d : Bool). SoundSeat (t .options) d (isAce (up t)) i (seatAt t i)) dealt (sound .seats i h)
+    pub dealt-seat : (i : ℕ) → i < 9 → SoundSeat (t .options) true (up t) i (seatAt t i)
+    dealt-seat i h = subst (λ (d : Bool). SoundSeat (t .options) d (up t) i (seatAt t i)) dealt (sound .seats i h)
 
     pub tray-pays : length (t .seats) ≡ 9 → (bank : Score) → sumOf (seatBack (t .options) bank) (t .seats) ≤ t .tray + layout t
     tray-pays nine bank =
         omega (
           arith,
           sum-at-most (λ s. seatBack (t .options) bank s + prizes (t .options) s) (λ s. laid s + seatCover s) (t .seats) missingSeat
-              (λ i h. back-most (t .options) (isAce (up t)) i (seatAt t i) (dealt-seat i (omega arith)) (sound-options t sound .hands-most) bank),
+              (λ i h. back-most (t .options) (up t) i (seatAt t i) (dealt-seat i (omega arith)) (sound-options t sound .hands-most) bank),
           sum-plus (seatBack (t .options) bank) (prizes (t .options)) (t .seats),
           sum-plus laid seatCover (t .seats),
           sound .cover dealt,

@@ -1,6 +1,6 @@
 -- An accepted deal keeps the table good: each staked seat has the cards that the history places behind the burn, by its rank among the staked seats.
 use mathlib.Core.Path.{_≡_, refl, sym, _∙_, ap, ap₂}
-use mathlib.Core.Bool.{true, false, cond, and-false}
+use mathlib.Core.Bool.{Bool, true, false, cond, and-false}
 use mathlib.Core.List.{List, [], _∷_}
 use Prim.Native.Nat.{ℕ, _+_, _-_, _*_, _≤_, _<_}
 use native.Mathlib.Decide.{decLe}
@@ -10,19 +10,22 @@ use lib.IntN.{pos}
 use lib.ListN.{getD}
 use lib.Seq.{getD-take, take-all}
 use borrow.Author.Tests.{le-leb, lt-leb, eq-eqb, ne-eqb}
+use Rattle.lists.specs.Tests.{anyOf}
 use Rattle.lists.proofs.Below.{sum-below-same, sum-below-more}
 use Rattle.call.specs.declared.Call.the-variants.{Deal}
 use Rattle.call.specs.Refusal.{first}
 use Rattle.cards.specs.Hand.{withCard}
 use Rattle.options.specs.declared.Options.{Options}
 use Rattle.options.specs.Aids.Facts.{InRange}
-use Rattle.rules.specs.SeatHand.{dealt, notEnded}
+use Rattle.rules.specs.SeatHand.{dealt, notEnded, hasTwoCards}
+use Rattle.rules.specs.Drew.{seatDrew}
 use Rattle.table.specs.declared.Money.{Money}
 use Rattle.table.specs.declared.Shoe.{Shoe}
 use Rattle.table.specs.declared.Table.{Table}
 use Rattle.table.specs.Seat.{missingSeat, purse, stake, insurance, isStaked, hands}
 use Rattle.table.specs.Shoe.{isFresh}
 use Rattle.table.specs.Table.{seatAt}
+use Rattle.table.specs.Progress.{anyDrew, anyDecided}
 use Rattle.table.proofs.Facts.{sound-options, no-hands, no-prizes}
 use Rattle.table.specs.Shape.{Shaped}
 use Rattle.table.specs.Aids.Sound.{Sound}
@@ -34,6 +37,7 @@ use Rattle.history.specs.Hands.{played, dealtHand, handsAfter, handsIn}
 use Rattle.history.specs.Money.{lays, wins, prizeOf, purseOf}
 use Rattle.agreement.specs.Aids.Agrees.{SeatAgrees, CardsAgree, Agrees, Good}
 use Rattle.agreement.proofs.Purse.{purse-moves}
+use Rattle.agreement.proofs.Events.{seatDecided, nobody-decided}
 use Rattle.deal_spec.specs.Burn.{firstBurn, laterBurn, burnAtDeal}
 use Rattle.deal_spec.specs.Deal.{stakedSeats, burnt, dealTakes, dealtSeats, upCard, dealConditions, dealEffect}
 use Rattle.lists.proofs.Parts.{sum-first, sum-before}
@@ -159,6 +163,23 @@ module _ (opening : List ℕ) (es : List Entry) (t : Table) (order : List ℕ) (
         purse-is = ap (λ (m : Money). pos (m .purse)) (both .0) ∙ purse-is i;
       }
 
+  -- nobody had taken a decision, and nobody has: a hand that is dealt has two cards and has not ended
+  undecided-before : (anyDrew t ≡ false) × (anyDecided t ≡ false)
+  unfolding seatDrew anyOf
+  undecided-before = nobody-decided t (λ i h. ap seatDecided (no-hands (seatAt t i) (no-hand-yet t (g .shaped) ok i)))
+
+  fresh-hands : (i : ℕ) → seatDecided (handsIn (t .options) opening (e ∷ es) i) ≡ false
+  unfolding handsAfter dealtHand seatDrew hasTwoCards anyOf
+  fresh-hands i = go (ltb 0 (stakeIn es i))
+    where
+      go : (b : Bool) → seatDecided (cond b (dealtHand (t .options) c (stakedBelow es i) (stakedBelow es (t .options .seats)) ∷ []) []) ≡ false
+      go true = refl
+      go false = refl
+
+  undecided-after : (anyDrew (dealEffect t) ≡ false) × (anyDecided (dealEffect t) ≡ false)
+  unfolding dealEffect
+  undecided-after = nobody-decided (dealEffect t) (λ i h. ap seatDecided (seat-agrees i .hands-are) ∙ fresh-hands i)
+
   deal-agrees : Agrees opening (e ∷ es) (dealEffect t)
   unfolding dealEffect withCard
   deal-agrees =
@@ -166,6 +187,8 @@ module _ (opening : List ℕ) (es : List Entry) (t : Table) (order : List ℕ) (
         cards = cards-agree;
         dealt = refl;
         seats = seat-agrees;
+        drew = undecided-after .0 ∙ sym (undecided-before .0) ∙ g .agrees .drew;
+        decided = undecided-after .1 ∙ sym (undecided-before .1) ∙ g .agrees .decided;
         balance = omega (arith, deal-money t (g .shaped) ok, g .agrees .balance);
       }
 

@@ -1,6 +1,6 @@
 -- The table after an accepted deal is sound: each staked seat has one hand of two cards, the bank one card, and the burnt cards are discards.
 use mathlib.Core.Path.{_≡_, refl, sym, _∙_, ap}
-use mathlib.Core.Bool.{Bool, true, false, cond, true≢false}
+use mathlib.Core.Bool.{true, false, cond, true≢false}
 use mathlib.Core.List.{List, _++_}
 use Prim.Native.Nat.{ℕ, suc, _+_, _*_, _≤_, _<_}
 use native.Mathlib.Decide.{decLe}
@@ -13,7 +13,6 @@ use Rattle.lists.specs.Sum.{sumOf, isIt}
 use Rattle.lists.specs.Tests.{anyOf}
 use Rattle.lists.specs.Flat.{flat}
 use Rattle.lists.proofs.Sums.{sum-append, sum-none, sum-ones, sum-take}
-use Rattle.cards.specs.Card.{isAce}
 use Rattle.cards.specs.Hand.{withCard}
 use Rattle.table.specs.declared.Money.{Money}
 use Rattle.table.specs.declared.Seat.{Seat}
@@ -261,8 +260,8 @@ module _ (t : Table) (shaped : Shaped t) (ok : DealAccepted t) where
   }
 
   -- a seat without a stake has no hand, and stays sound
-  idle-sound : (i : ℕ) (ace : Bool) → i < 9 → isStaked (seatAt t i) ≡ false → SoundSeat (t .options) true ace i (seatAt t i)
-  idle-sound i ace h none =
+  idle-sound : (i card : ℕ) → i < 9 → isStaked (seatAt t i) ≡ false → SoundSeat (t .options) true card i (seatAt t i)
+  idle-sound i card h none =
       let f = ok .sound .seats i h in
       record {
         beyond = f .beyond;
@@ -273,14 +272,14 @@ module _ (t : Table) (shaped : Shaped t) (ok : DealAccepted t) where
         prizes-back = f .prizes-back;
       }
 
-  seat-sound : (i : ℕ) (ace : Bool) → i < 9 → SoundSeat (t .options) true ace i (getD (dealtSeats t) i missingSeat)
-  seat-sound i ace h =
-      dealt-either i (SoundSeat (t .options) true ace i)
+  seat-sound : (i card : ℕ) → i < 9 → SoundSeat (t .options) true card i (getD (dealtSeats t) i missingSeat)
+  seat-sound i card h =
+      dealt-either i (SoundSeat (t .options) true card i)
       (λ staked.
       dealt-sound (seatAt t i) (four i staked) (firstOf t i) (secondOf t i)
-      (t .options) (isAce (up t)) ace i (sound-options t (ok .sound) .hands-least) (ltb-true 0 (stake (seatAt t i)) staked)
+      (t .options) (up t) card i (sound-options t (ok .sound) .hands-least) (ltb-true 0 (stake (seatAt t i)) staked)
       (rw (ok .between) at (ok .sound .seats i h)))
-      (idle-sound i ace h)
+      (idle-sound i card h)
 
   pub deal-sound : Sound (dealEffect t)
   unfolding dealEffect withCard
@@ -291,7 +290,7 @@ module _ (t : Table) (shaped : Shaped t) (ok : DealAccepted t) where
     discarded = burnt-room;
     faces = λ b h. omega (arith, out-cards (isIt b), drawn-cards (isIt b), ok .sound .faces b h);
     number = omega (arith, out-cards (λ x. 1), shoe-takes (dealTakes t) (ok .enough), sum-ones (outCards (dealEffect t)), sum-ones (outCards t), sum-ones (take (dealTakes t) (tableShoe t)), ok .sound .number);
-    seats = λ i h. seat-sound i (isAce (upCard t)) h;
+    seats = λ i h. seat-sound i (upCard t) h;
     bank = omega arith;
     round = λ dealt. some-staked ∙ ok .some;
     money = omega (arith, deal-money, ok .sound .money);

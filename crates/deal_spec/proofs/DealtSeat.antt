@@ -1,6 +1,6 @@
 -- A staked seat after both passes: one hand of the two cards, not ended, with the stake as its wager and no prize.
 use mathlib.Core.Path.{_≡_, refl, sym, _∙_, ap}
-use mathlib.Core.Bool.{Bool, true, false, and-false, true≢false}
+use mathlib.Core.Bool.{true, false, and-false, true≢false}
 use mathlib.Core.List.{[], _∷_, map}
 use Prim.Native.Nat.{ℕ, _+_, _≤_, _<_}
 use native.Mathlib.Omega.{arith}
@@ -20,6 +20,7 @@ use Rattle.payment.specs.Prize.{prize}
 use Rattle.table.specs.declared.Seat.{Seat}
 use Rattle.table.specs.Seat.{missingPlace, stake, insurance, hands, seatCards, laid, prizes}
 use Rattle.table.specs.Shape.{ShapedSeat}
+use Rattle.table.specs.Broken.{soundOrigin, soundEnding}
 use Rattle.table.specs.Aids.Sound.{SoundSeat, SoundHand}
 use Rattle.history.specs.Hands.{played}
 use Rattle.deal_spec.specs.Pass.{withOnly, firstCard, secondCard}
@@ -65,9 +66,9 @@ module _ (s : Seat) (four : length (s .hands .places) ≡ 4) (a b : ℕ) where
   unfolding prizes sumOf prize isPrizeHand
   dealt-prizes o = rw dealt-hands (simp and-false)
 
-  dealt-hand : SoundHand (twoCards a b)
-  unfolding withCard couldBePlayed
-  dealt-hand = record { two-cards = omega arith; twenty-cards = omega arith; played = refl; origin = omega arith; ended = omega arith }
+  dealt-hand : (o : Options) (up : ℕ) → SoundHand o up 1 (twoCards a b)
+  unfolding withCard couldBePlayed soundOrigin soundEnding
+  dealt-hand o up = record { two-cards = omega arith; twenty-cards = omega arith; played = refl; origin = refl; ended = refl }
 
   pub dealt-shaped : ShapedSeat s → ShapedSeat (dealtSeat s a b)
   unfolding withCard
@@ -78,8 +79,8 @@ module _ (s : Seat) (four : length (s .hands .places) ≡ 4) (a b : ℕ) where
       }
 
   -- sound, where it was sound before the deal
-  pub dealt-sound : (o : Options) (ace-before ace : Bool) (i : ℕ) → 2 ≤ o .hands → 0 < stake s → SoundSeat o false ace-before i s → SoundSeat o true ace i (dealtSeat s a b)
-  dealt-sound o ace-before ace i many staked f =
+  pub dealt-sound : (o : Options) (before up i : ℕ) → 2 ≤ o .hands → 0 < stake s → SoundSeat o false before i s → SoundSeat o true up i (dealtSeat s a b)
+  dealt-sound o before up i many staked f =
       record {
         beyond = λ h. absurd (omega (arith, f .beyond h .no-stake));
         stake-fits = f .stake-fits;
@@ -89,7 +90,7 @@ module _ (s : Seat) (four : length (s .hands .places) ≡ 4) (a b : ℕ) where
           in-round = refl;
           staked = staked;
           within = omega arith;
-          each = λ p l k. let here : p ≡ 0 = omega arith in rw (here, getD-set-same (s .hands .places) 0 (twoCards a b) missingPlace (omega arith)) dealt-hand;
+          each = λ p l k. let here : p ≡ 0 = omega arith in rw (here, getD-set-same (s .hands .places) 0 (twoCards a b) missingPlace (omega arith)) (dealt-hand o up);
         };
         prizes-back = omega (arith, dealt-prizes o);
       }

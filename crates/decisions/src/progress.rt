@@ -5,7 +5,7 @@ ghost use lib.Dec.{ltb};
 ghost use Rattle.lists.specs.Tests.{anyOf};
 ghost use Rattle.rules.specs.SeatHand.{handsOf};
 ghost use Rattle.table.specs.Table.{seatsHands};
-ghost use Rattle.decisions_spec.specs.Progress.{anyDrew, anyDecided};
+ghost use Rattle.table.specs.Progress.{anyDrew, anyDecided};
 ghost use Rattle.decisions.specs.Aids.Acted.{acted};
 use rules::drew::seat_drew;
 use rules::seat_hand::NOT_ENDED;

@@ -8,7 +8,6 @@ use lib.Dec.{eqb}
 use lib.ListN.{length}
 use borrow.Author.Tests.{ltb-true, leb-false, eqb-true, not-false}
 use Rattle.lists.proofs.Tests.{first-inside, first-passes}
-use Rattle.cards.specs.Card.{isAce}
 use Rattle.options.proofs.Facts.{in-range-facts}
 use Rattle.rules.specs.SeatHand.{Played, playedOf, splitAces}
 use Rattle.rules.specs.Waits.{waits, acesWait, cardsWait}
@@ -50,7 +49,7 @@ pub record Staked (t : Table) (j : ℕ) : Type 0 where
   pub shaped : ShapedSeat (seatAt t j)
   pub some : 0 < seatAt t j .hands .many
   pub few : seatAt t j .hands .many ≤ 4
-  pub playing : Playing (t .options) (isDealt t) (seatAt t j)
+  pub playing : Playing (t .options) (isDealt t) (up t) (seatAt t j)
 
 pub record Waiting (t : Table) (j p : ℕ) : Type 0 where
   pub seat : Staked t j
@@ -93,7 +92,7 @@ module _ (t : Table) (shaped : Shaped t) (sound : Sound t) (j : ℕ) (act : Acti
       record { seat = staked-seat; here = here; not-ended = waits-open t (length (hands s)) (playedOf (placeOf s (waitingPlaceOf t j))) waiting }
 
   -- the insurance stays, where stake and insurance do
-  pub still-insured : (s : Seat) → stake s ≡ stake (seatAt t j) → insurance s ≡ insurance (seatAt t j) → 0 < insurance s → Insured (t .options) (isDealt t) (isAce (up t)) s
+  pub still-insured : (s : Seat) → stake s ≡ stake (seatAt t j) → insurance s ≡ insurance (seatAt t j) → 0 < insurance s → Insured (t .options) (isDealt t) (up t) s
   still-insured s same-stake same-insurance some =
       let was = sound .seats j (act .nine) .insured (omega arith) in
       record { in-round = was .in-round; ace-up = was .ace-up; staked = omega (arith, was .staked); permitted = rw (same-stake, same-insurance) (was .permitted) }

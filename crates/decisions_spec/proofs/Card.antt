@@ -5,7 +5,7 @@ use mathlib.Core.List.{List, [], _∷_, _++_}
 use Prim.Native.Nat.{ℕ, _+_, _-_, _*_, _≤_, _<_}
 use native.Mathlib.Omega.{arith}
 use lib.Dec.{ltb, eqb}
-use lib.ListN.{length, getD, set, length-take}
+use lib.ListN.{length, getD, set, length-take, length-append, List·getD-append}
 use borrow.Author.Tests.{ltb-true}
 use Rattle.lists.specs.Sum.{sumOf}
 use Rattle.lists.proofs.Sums.{sum-snoc, sum-one}
@@ -14,8 +14,10 @@ use Rattle.cards.specs.Total.{total}
 use Rattle.cards.proofs.hand.WithCard.{with-card-cards, with-card-count, with-card-full}
 use Rattle.cards.proofs.total.Bounds.{room-below-21, played-more}
 use Rattle.cards.proofs.prize_hand.PrizeTotal.{no-prize-below-21}
+use Rattle.options.specs.declared.Options.{Options}
 use Rattle.rules.specs.declared.seat_hand.SeatHand.{SeatHand}
 use Rattle.rules.specs.SeatHand.{Played, playedOf, splitAces, notEnded}
+use Rattle.rules.proofs.drew.Laws.{drew-cards}
 use Rattle.rules.specs.Turn.{waitingPlace}
 use Rattle.rules.specs.Waits.{waits}
 use Rattle.rules.specs.Permits.{takesCards}
@@ -24,23 +26,26 @@ use Rattle.payment.specs.Prize.{prize}
 use Rattle.payment.proofs.Bounds.{wager-single, prize-none, prize-same, prize-most}
 use Rattle.history.specs.Entry.{Entry, isInsure, isDraw, isDouble}
 use Rattle.history.specs.Cards.{Cards, callTakes}
-use Rattle.history.specs.Hands.{played, missingHand, nextCard, grown, decide}
+use Rattle.history.specs.Hands.{played, missingHand, nextCard, grown}
 use Rattle.history.specs.Money.{lays, wins}
 use Rattle.table.specs.declared.Money.{Money}
 use Rattle.table.specs.declared.Table.{Table}
 use Rattle.table.specs.Seat.{money, purse, stake, insurance, hands}
 use Rattle.table.specs.Shoe.{withDrawn}
 use Rattle.table.specs.Table.{seatAt, up, tableOrder, cardsLeft}
+use Rattle.table.specs.Broken.{soundOrigin, soundEnding}
 use Rattle.table.specs.Shape.{Shaped}
 use Rattle.table.specs.Aids.Sound.{Sound, SoundHand}
-use Rattle.table.proofs.SeatHands.{with-hand, hand-is}
+use Rattle.table.proofs.SeatHands.{with-hand, how-many, hand-is}
 use Rattle.table.proofs.NextCards.{card-at, next-one}
 use Rattle.table.proofs.Cover.{tray-covers}
 use Rattle.agreement.specs.Aids.Agrees.{CardsAgree}
+use Rattle.agreement.proofs.Events.{Events, drawing}
 use Rattle.decisions_spec.specs.Turn.{waitingPlaceOf, waitingHandOf, mayTake}
 use Rattle.decisions_spec.specs.Card.{cardAhead, grownHand, cardEffect}
 use Rattle.decisions_spec.proofs.Acting.{Waiting}
-use Rattle.decisions_spec.proofs.Decision.{Guest, of-seat, draws-some, Decision}
+use Rattle.decisions_spec.proofs.Turn.{TurnAccepted, turn-waiting}
+use Rattle.decisions_spec.proofs.Decision.{makes, Guest, of-seat, draws-some, Decision}
 use Rattle.decisions_spec.proofs.HandChange.{HandChange, hand-decided}
 
 -- the history's next cards are the table's
@@ -57,39 +62,51 @@ pub record Growing (t : Table) (e : Entry) (j more code : ℕ) : Type 0 where
   pub gives : isDraw e || isDouble e ≡ true
   pub takes : (staked : ℕ) (c : Cards) → callTakes (t .options) staked c e ≡ 1
   pub decides : (c : Cards) (h : Played) → getD (hands (seatAt t j)) (waitingPlaceOf t j) missingHand ≡ h → h .ended ≡ notEnded
-      → decide (hands (seatAt t j)) (waitingPlaceOf t j) c e ≡ set (hands (seatAt t j)) (waitingPlaceOf t j) (played (h .cards ++ (nextCard c 0 ∷ [])) (h .origin) code)
+      → makes (hands (seatAt t j)) (waitingPlaceOf t j) c e ≡ set (hands (seatAt t j)) (waitingPlaceOf t j) (played (h .cards ++ (nextCard c 0 ∷ [])) (h .origin) code)
   pub lays-it : lays j (stake (seatAt t j)) e ≡ more
-  pub in-code : code ≤ 5
   pub wager-is : (h : Played) → h .ended ≡ code → wager (stake (seatAt t j)) h ≡ stake (seatAt t j) + more
 
--- what its conditions give
-pub record Allowed (t : Table) (j more : ℕ) : Type 0 where
+-- what its conditions give; the ending fits the hand with the card
+pub record Allowed (t : Table) (j more code : ℕ) : Type 0 where
   pub below : total (cardsOf (waitingHandOf t j .hand)) < 21
+  pub fits : cardsOf (grownHand t j code .hand) ≡ cardsOf (waitingHandOf t j .hand) ++ (cardAhead t 0 ∷ [])
+      → soundEnding (t .options) (up t) (seatAt t j .hands .many) (playedOf (grownHand t j code)) ≡ true
   pub purse-has : more ≤ purse (seatAt t j)
   pub left : 1 ≤ cardsLeft t
 
 -- a hand below 21 with the next card
-module _ (h : SeatHand) (card code : ℕ) (full : length (h .hand .cards) ≡ 20) (sound : SoundHand h) (below : total (cardsOf (h .hand)) < 21) where
+module _ (o : Options) (up many : ℕ) (h : SeatHand) (card code : ℕ) (full : length (h .hand .cards) ≡ 20) (sound : SoundHand o up many h) (below : total (cardsOf (h .hand)) < 21) where
   room : h .hand .count < 20
   room = omega (arith, room-below-21 (cardsOf (h .hand)) (sound .played) (omega (arith, length-take (h .hand .count) (h .hand .cards))) below, length-take (h .hand .count) (h .hand .cards))
 
   more-cards : cardsOf (withCard (h .hand) card) ≡ cardsOf (h .hand) ++ (card ∷ [])
   more-cards = with-card-cards (h .hand) card full room
 
-  more-sound : code ≤ 5 → SoundHand (record { hand = withCard (h .hand) card; origin = h .origin; ended = code })
-  more-sound in-code =
+  -- it comes from where it came from, and its first card is the same
+  more-origin : soundOrigin many (played (cardsOf (withCard (h .hand) card)) (h .origin) code) ≡ true
+  unfolding soundOrigin
+  more-origin =
+      let some : 0 < length (cardsOf (h .hand)) = omega (arith, length-take (h .hand .count) (h .hand .cards), sound .two-cards) in
+      rw (more-cards, List·getD-append (cardsOf (h .hand)) (card ∷ []) 0 0) (sound .origin)
+
+  more-sound : soundEnding o up many (played (cardsOf (withCard (h .hand) card)) (h .origin) code) ≡ true
+      → SoundHand o up many (record { hand = withCard (h .hand) card; origin = h .origin; ended = code })
+  more-sound fits =
       record {
         two-cards = omega (arith, with-card-count (h .hand) card room, sound .two-cards);
         twenty-cards = omega (arith, with-card-count (h .hand) card room, room);
         played = rw more-cards (played-more (cardsOf (h .hand)) card (sound .played) below);
-        origin = sound .origin;
-        ended = in-code;
+        origin = more-origin;
+        ended = fits;
       }
 
   more-full : length (withCard (h .hand) card .cards) ≡ 20
   more-full = with-card-full (h .hand) card full room
 
-module _ (t : Table) (e : Entry) (j more code : ℕ) (shaped : Shaped t) (sound : Sound t) (w : Waiting t j (waitingPlaceOf t j)) (g : Growing t e j more code) (a : Allowed t j more) where
+module _ (t : Table) (e : Entry) (j more code : ℕ) (shaped : Shaped t) (sound : Sound t) (turn : TurnAccepted t j) (g : Growing t e j more code) (a : Allowed t j more code) where
+  w : Waiting t j (waitingPlaceOf t j)
+  w = turn-waiting t shaped sound j turn
+
   abbrev won : ℕ
   won = prize (t .options) (stake (seatAt t j)) (playedOf (grownHand t j code))
 
@@ -97,13 +114,13 @@ module _ (t : Table) (e : Entry) (j more code : ℕ) (shaped : Shaped t) (sound 
   new-money = money (purse (seatAt t j) - more + won) (stake (seatAt t j)) (insurance (seatAt t j))
 
   full : length (waitingHandOf t j .hand .cards) ≡ 20
-  full = w .seat .shaped .twenty-cards (waitingPlaceOf t j) (omega arith)
+  full = w .seat .shaped .twenty-cards (waitingPlaceOf t j) (omega (arith, w .here, w .seat .few))
 
-  was : SoundHand (waitingHandOf t j)
+  was : SoundHand (t .options) (up t) (seatAt t j .hands .many) (waitingHandOf t j)
   was = w .seat .playing .each (waitingPlaceOf t j) (w .here) (omega (arith, w .here, w .seat .few, w .seat .shaped .four-places))
 
   cards : cardsOf (grownHand t j code .hand) ≡ cardsOf (waitingHandOf t j .hand) ++ (cardAhead t 0 ∷ [])
-  cards = more-cards (waitingHandOf t j) (cardAhead t 0) code full was (a .below)
+  cards = more-cards (t .options) (up t) (seatAt t j .hands .many) (waitingHandOf t j) (cardAhead t 0) code full was (a .below)
 
   same-hand : getD (hands (seatAt t j)) (waitingPlaceOf t j) missingHand ≡ playedOf (waitingHandOf t j)
   same-hand = hand-is (seatAt t j) (waitingPlaceOf t j) (w .seat .shaped) (w .seat .few) (w .here)
@@ -123,6 +140,18 @@ module _ (t : Table) (e : Entry) (j more code : ℕ) (shaped : Shaped t) (sound 
       ∙ ap prize-of same-hand
       ∙ prize-same o (stake (seatAt t j)) (grown (playedOf (waitingHandOf t j)) (nextCard c 0)) (playedOf (grownHand t j code)) (history-cards c agree))
 
+  -- the hand has three cards or more
+  card-events : Events e (hands (seatAt t j)) (set (hands (seatAt t j)) (waitingPlaceOf t j) (playedOf (grownHand t j code)))
+  card-events =
+      let s = seatAt t j in
+      let p = waitingPlaceOf t j in
+      let new = playedOf (grownHand t j code) in
+      let h = waitingHandOf t j .hand in
+      let inside : p < length (hands s) = omega (arith, how-many s p (w .seat .shaped) (w .seat .few) (w .here), w .here) in
+      drawing e (hands s) (set (hands s) p new) (simp (g .gives))
+      (drew-cards (hands s) p new missingHand inside
+      (λ two. omega (arith, full, was .two-cards, was .twenty-cards, length-take (h .count) (h .cards), simp length-append at (ap length cards))))
+
   card-change : HandChange t e j (waitingPlaceOf t j) (t .tray - won) new-money (grownHand t j code) (withDrawn (t .shoe) 1) 1 more won
   card-change =
       let s = seatAt t j in
@@ -133,12 +162,14 @@ module _ (t : Table) (e : Entry) (j more code : ℕ) (shaped : Shaped t) (sound 
         no-insure = g .no-insure;
         same-stake = refl;
         same-insurance = refl;
-        full = more-full h (cardAhead t 0) code full was (a .below);
-        sound-hand = more-sound h (cardAhead t 0) code full was (a .below) (g .in-code);
+        full = more-full (t .options) (up t) (s .hands .many) h (cardAhead t 0) code full was (a .below);
+        sound-hand = more-sound (t .options) (up t) (s .hands .many) h (cardAhead t 0) code full was (a .below) (a .fits cards);
+        turn-is = λ in-turn. turn;
         decides = λ c agree. g .decides c (playedOf h) same-hand (w .not-ended) ∙ ap (λ (xs : List ℕ). set (hands s) (waitingPlaceOf t j) (played xs (h .origin) code)) (history-cards c agree);
+        events = card-events;
         lays-it = g .lays-it;
         wins-it = wins-won;
-        wager-grows = omega (arith, g .wager-is (playedOf new) refl, wager-single (stake s) (playedOf h) (λ b. omega arith));
+        wager-grows = omega (arith, g .wager-is (playedOf new) refl, wager-single (stake s) (playedOf h) (λ b. omega (arith, w .not-ended)));
         prize-grows = omega (arith, prize-none (t .options) (stake s) (playedOf h) (no-prize-below-21 (cardsOf (h .hand)) (a .below)));
         purse-pays = omega (arith, a .purse-has);
         tray-pays = omega (arith, prize-most (t .options) (stake s) (playedOf new), tray-covers t (shaped .nine-seats) sound (w .seat .acting .dealt) j (w .seat .acting .nine));

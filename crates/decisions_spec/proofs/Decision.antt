@@ -1,7 +1,7 @@
 -- A decision, or an insurance: what a call of a guest in a dealt round must give so that any sound table stays sound and one that agrees with a
 -- history still does. It lays `more`, wins `won` and draws k cards.
 use mathlib.Core.Path.{_≡_, refl, sym, _∙_, ap, subst}
-use mathlib.Core.Bool.{true, false, cond, _||_, and-true}
+use mathlib.Core.Bool.{Bool, true, false, cond, _||_, and-true}
 use mathlib.Core.List.{List, _∷_}
 use Prim.Native.Nat.{ℕ, _+_, _*_, _≤_, _<_}
 use native.Mathlib.Omega.{arith}
@@ -9,15 +9,14 @@ use lib.IntN.{pos}
 use lib.ListN.{length, getD, take, length-append}
 use borrow.Author.Tests.{ltb-true, eq-eqb, ne-eqb}
 use Rattle.lists.specs.Sum.{sumOf}
-use Rattle.cards.specs.Card.{isAce}
 use Rattle.options.specs.declared.Options.{Options}
 use Rattle.rules.specs.SeatHand.{Played}
 use Rattle.rules.specs.Turn.{waitingPlace}
 use Rattle.call.specs.Call.{kind, seat}
-use Rattle.history.specs.Entry.{Entry, isOf, isKind, isStake, isDeal, isInsure, isEnd, isLoad, isFill, isCredit, isBuy, isCash, amountOf}
+use Rattle.history.specs.Entry.{Entry, isOf, isKind, isStake, isDeal, isInsure, isSurrender, isDecision, isEnd, isLoad, isFill, isCredit, isBuy, isCash, amountOf}
 use Rattle.history.specs.Rounds.{stakeIn, insuranceIn, stakedBelow}
 use Rattle.history.specs.Cards.{Cards, callTakes, cardsOfHistory}
-use Rattle.history.specs.Hands.{handsAfter, handsIn, decide}
+use Rattle.history.specs.Hands.{turnIn, decide, surrenders, handsAfter, handsIn}
 use Rattle.history.specs.Money.{lays, wins, laidIn, prizesIn, prizeOf, purseOf}
 use Rattle.table.specs.declared.Seat.{Seat}
 use Rattle.table.specs.declared.Shoe.{Shoe}
@@ -29,10 +28,17 @@ use Rattle.table.specs.Shape.{Shaped, ShapedSeat}
 use Rattle.table.specs.Aids.Sound.{Sound, SoundSeat, Insured, Playing}
 use Rattle.table.proofs.SeatChange.{changed, SeatChange, change-shaped, change-money, change-sound}
 use Rattle.agreement.specs.Aids.Agrees.{SeatAgrees, CardsAgree, Good}
+use Rattle.agreement.proofs.Quiet.{hands-stay}
+use Rattle.agreement.proofs.Events.{Events}
 use Rattle.agreement.proofs.OneSeat.{SeatCall, one-call}
 use Rattle.agreement.proofs.Purse.{purse-moves}
 use Rattle.decisions_spec.specs.Turn.{waitingPlaceOf}
 use Rattle.decisions_spec.proofs.Acting.{Acting}
+use Rattle.decisions_spec.proofs.Turn.{TurnAccepted, history-turn}
+
+-- what a call of the seat makes of its hands, p being the place whose turn it is: surrender is out of turn, insurance leaves them
+abbrev pub makes : List Played → ℕ → Cards → Entry → List Played
+makes hands p c e = cond (isDecision e) (cond (isSurrender e) (surrenders hands) (decide hands p c e)) hands
 
 -- insurance and the decisions of seat j: kinds 7 to 14
 pub record Guest (e : Entry) (j : ℕ) : Type 0 where
@@ -83,10 +89,28 @@ module _ (e : Entry) (j : ℕ) (g : Guest e j) where
     insurance-after : insuranceIn (e ∷ es) j ≡ cond (isInsure e) (amountOf e) (insuranceIn es j)
     insurance-after = simp (not-end, of-seat, and-true)
 
-    hands-after : (c : Cards) → c ≡ cardsOfHistory o opening es
-        → handsIn o opening (e ∷ es) j ≡ decide (handsIn o opening es j) (waitingPlace o (getD (c .bank) 0 0) (handsIn o opening es j)) c e
-    unfolding handsAfter
-    hands-after c same = simp (not-deal, not-end, of-seat, same)
+    -- a decision in turn goes to the seat, and no other seat's hands change
+    module _ (goes : isDecision e ≡ true → isSurrender e ≡ false → turnIn o (cardsOfHistory o opening es) (λ k. handsIn o opening es k) ≡ j) where
+      hands-after : (c : Cards) → c ≡ cardsOfHistory o opening es
+          → handsIn o opening (e ∷ es) j ≡ makes (handsIn o opening es j) (waitingPlace o (getD (c .bank) 0 0) (handsIn o opening es j)) c e
+      unfolding handsAfter
+      hands-after c same = go (isDecision e) (isSurrender e) refl refl
+        where
+          go : (d b : Bool) → isDecision e ≡ d → isSurrender e ≡ b
+              → handsIn o opening (e ∷ es) j
+              ≡ cond d (cond b (surrenders (handsIn o opening es j)) (decide (handsIn o opening es j) (waitingPlace o (getD (c .bank) 0 0) (handsIn o opening es j)) c e)) (handsIn o opening es j)
+          go false b decides out = hands-stay o opening es j e not-deal not-end decides
+          go true true decides out = simp (not-deal, not-end, out, of-seat)
+          go true false decides out = simp (not-deal, not-end, out, eq-eqb j _ (sym (goes decides out)), same)
+
+      hands-others : (i : ℕ) → (i ≡ j → ⊥) → handsIn o opening (e ∷ es) i ≡ handsIn o opening es i
+      unfolding handsAfter
+      hands-others i other = go (isDecision e) (isSurrender e) refl refl
+        where
+          go : (d b : Bool) → isDecision e ≡ d → isSurrender e ≡ b → handsIn o opening (e ∷ es) i ≡ handsIn o opening es i
+          go false b decides out = hands-stay o opening es i e not-deal not-end decides
+          go true true decides out = simp (not-deal, not-end, out, of-other i other)
+          go true false decides out = simp (not-deal, not-end, out, ne-eqb i _ (λ h. other (h ∙ goes decides out)))
 
     laid-after : laidIn (e ∷ es) j ≡ lays j (stakeIn es j) e + laidIn es j
     laid-after = simp not-end
@@ -117,11 +141,13 @@ pub record Decided (t : Table) (e : Entry) (j tray : ℕ) (s : Seat) (shoe : Sho
   pub acting : Acting t j
   pub shaped-seat : ShapedSeat s
   pub same-stake : stake s ≡ stake (seatAt t j)
-  pub insured : 0 < insurance s → Insured (t .options) (isDealt t) (isAce (up t)) s
+  pub insured : 0 < insurance s → Insured (t .options) (isDealt t) (up t) s
   pub has-hands : 0 < s .hands .many
-  pub playing : Playing (t .options) (isDealt t) s
+  pub playing : Playing (t .options) (isDealt t) (up t) s
   pub insurance-is : insurance s ≡ cond (isInsure e) (amountOf e) (insurance (seatAt t j))
-  pub hands-are : (c : Cards) → CardsAgree c t → hands s ≡ decide (hands (seatAt t j)) (waitingPlaceOf t j) c e
+  pub turn-is : isDecision e ≡ true → isSurrender e ≡ false → TurnAccepted t j
+  pub hands-are : (c : Cards) → CardsAgree c t → hands s ≡ makes (hands (seatAt t j)) (waitingPlaceOf t j) c e
+  pub events : Events e (hands (seatAt t j)) (hands s)
   pub lays-it : lays j (stake (seatAt t j)) e ≡ more
   pub wins-it : (c : Cards) → CardsAgree c t → wins (t .options) c j (stake (seatAt t j)) (hands (seatAt t j)) e ≡ won
   pub laid-grows : laid s ≡ laid (seatAt t j) + more
@@ -138,7 +164,7 @@ some-drawn t sound dealt =
     omega (arith, simp length-append at (sound .number), ltb-true 0 (length (bankCards t)) dealt)
 
 module _ (t : Table) (e : Entry) (j tray : ℕ) (s : Seat) (shoe : Shoe) (k more won : ℕ) (sound : Sound t) (d : Decided t e j tray s shoe k more won) where
-  was : SoundSeat (t .options) (isDealt t) (isAce (up t)) j (seatAt t j)
+  was : SoundSeat (t .options) (isDealt t) (up t) j (seatAt t j)
   was = sound .seats j (d .acting .nine)
 
   change : SeatChange t j tray s shoe k 0 0
@@ -182,11 +208,14 @@ module _ (opening : List ℕ) (es : List Entry) (t : Table) (e : Entry) (j tray 
   wins-history = simp (← (history .stake-is), ← (history .hands-are)) (d .wins-it (cardsOfHistory (t .options) opening es) (good .agrees .cards))
 
   hands-history : (c : Cards) → CardsAgree c t
-      → hands s ≡ decide (handsIn (t .options) opening es j) (waitingPlace (t .options) (getD (c .bank) 0 0) (handsIn (t .options) opening es j)) c e
+      → hands s ≡ makes (handsIn (t .options) opening es j) (waitingPlace (t .options) (getD (c .bank) 0 0) (handsIn (t .options) opening es j)) c e
   hands-history c agree =
       d .hands-are c agree
-      ∙ ap (λ (b : List ℕ). decide (hands (seatAt t j)) (waitingPlace (t .options) (getD b 0 0) (hands (seatAt t j))) c e) (agree .bank)
-      ∙ ap (λ (hs : List Played). decide hs (waitingPlace (t .options) (getD (c .bank) 0 0) hs) c e) (history .hands-are)
+      ∙ ap (λ (b : List ℕ). makes (hands (seatAt t j)) (waitingPlace (t .options) (getD b 0 0) (hands (seatAt t j))) c e) (agree .bank)
+      ∙ ap (λ (hs : List Played). makes hs (waitingPlace (t .options) (getD (c .bank) 0 0) hs) c e) (history .hands-are)
+
+  goes : isDecision e ≡ true → isSurrender e ≡ false → turnIn (t .options) (cardsOfHistory (t .options) opening es) (λ k. handsIn (t .options) opening es k) ≡ j
+  goes decides in-turn = history-turn opening es t (good .agrees) j (d .turn-is decides in-turn)
 
   seat-agrees : SeatAgrees (t .options) opening (e ∷ es) j s
   seat-agrees =
@@ -197,7 +226,7 @@ module _ (opening : List ℕ) (es : List Entry) (t : Table) (e : Entry) (j tray 
             d .insurance-is
             ∙ ap (λ (I : ℕ). cond (isInsure e) (amountOf e) I) (history .insurance-is)
             ∙ sym (insurance-after e j (d .guest) (t .options) opening es);
-        hands-are = hands-history c (good .agrees .cards) ∙ sym (hands-after e j (d .guest) (t .options) opening es c refl);
+        hands-are = hands-history c (good .agrees .cards) ∙ sym (hands-after e j (d .guest) (t .options) opening es goes c refl);
         laid-is =
             let l : laid s ≡ lays j (stakeIn es j) e + laidIn es j = omega (arith, d .laid-grows, history .laid-is, lays-history) in
             l ∙ sym (laid-after e j (d .guest) (t .options) opening es);
@@ -220,6 +249,8 @@ module _ (opening : List ℕ) (es : List Entry) (t : Table) (e : Entry) (j tray 
         same-order = d .draws .same-order;
         more-drawn = d .draws .more-drawn;
         same-fresh = ne-eqb (shoe .drawn) 0 (λ h. omega (arith, some-card)) ∙ sym (ne-eqb (t .shoe .drawn) 0 (λ h. omega (arith, some-card)));
+        others = hands-others e j (d .guest) (t .options) opening es goes;
+        events = d .events;
         seat = seat-agrees;
         money = simp (none-goes e j (d .guest), none-comes e j (d .guest)) (omega (arith, change-money t j tray s shoe k 0 0 (good .shaped) (good .sound) (change t e j tray s shoe k more won (good .sound) d)));
       }

@@ -1,15 +1,20 @@
 -- An accepted double lays the stake again and gives the hand whose turn it is its last card, with the prize that this makes.
-use mathlib.Core.Path.{_≡_, refl, ap}
-use mathlib.Core.Bool.{true, _&&_, _||_, and-eq-true-iff}
-use mathlib.Core.List.{List}
+use mathlib.Core.Path.{_≡_, refl, ap, _∙_}
+use mathlib.Core.Bool.{true, not, _||_}
+use mathlib.Core.List.{List, [], _∷_, _++_}
 use Prim.Native.Nat.{ℕ, _≤_}
 use native.Mathlib.Omega.{arith}
-use lib.Dec.{eqb}
-use lib.ListN.{set}
-use borrow.Author.Tests.{ltb-false, eq-eqb, not-false}
+use lib.Dec.{ltb, eqb}
+use lib.ListN.{length, getD, set, take, length-append}
+use lib.Seq.{take-append-le, take-all}
+use borrow.Author.Tests.{ltb-false, eqb-true, eq-eqb, not-false}
 use Rattle.lists.specs.Tests.{allOf}
+use Rattle.lists.proofs.Tests.{and-at}
+use Rattle.cards.specs.Hand.{cardsOf}
 use Rattle.cards.specs.Total.{total}
-use Rattle.rules.specs.SeatHand.{Played, playedOf, byDouble, hasTwoCards}
+use Rattle.options.specs.declared.Options.{Options}
+use Rattle.rules.specs.SeatHand.{Played, playedOf, splitAces, byDouble, hasTwoCards}
+use Rattle.rules.specs.Waits.{waits}
 use Rattle.rules.specs.Permits.{takesCards, permitsDouble}
 use Rattle.payment.proofs.Bounds.{wager-double}
 use Rattle.call.specs.declared.At.{At}
@@ -17,17 +22,19 @@ use Rattle.call.specs.declared.Call.the-variants.{Double}
 use Rattle.call.specs.Refusal.{first}
 use Rattle.history.specs.Aids.MakeEntry.{entry}
 use Rattle.history.specs.Cards.{callTakes}
-use Rattle.history.specs.Hands.{nextCard, grown, finished, decide}
+use Rattle.history.specs.Hands.{played, nextCard, grown, finished, decide}
 use Rattle.history.specs.Money.{lays}
 use Rattle.table.specs.declared.Table.{Table}
 use Rattle.table.specs.Seat.{purse, stake, hands}
-use Rattle.table.specs.Table.{seatAt, cardsLeft}
+use Rattle.table.specs.Table.{seatAt, up, cardsLeft}
+use Rattle.table.specs.Broken.{soundDouble, soundEnding}
 use Rattle.table.specs.Shape.{Shaped}
 use Rattle.table.specs.Aids.Sound.{Sound}
 use Rattle.decisions_spec.specs.Turn.{waitingPlaceOf, waitingHandOf, mayTake}
+use Rattle.decisions_spec.specs.Card.{cardAhead, grownHand}
 use Rattle.decisions_spec.specs.Double.{doubleConditions, doubleEffect}
 use Rattle.decisions_spec.proofs.Decision.{Decision}
-use Rattle.decisions_spec.proofs.Turn.{TurnAccepted, turn-accepted, turn-waiting}
+use Rattle.decisions_spec.proofs.Turn.{TurnAccepted, turn-accepted}
 use Rattle.decisions_spec.proofs.Card.{Growing, Allowed, takes-below, card-decides}
 
 -- what its conditions give
@@ -48,13 +55,21 @@ double-accepted t j e =
       left = ltb-false (cardsLeft t) 1 left;
     }
 
--- a hand that may double takes cards
-double-takes : (t : Table) (j : ℕ) → mayTake permitsDouble t j ≡ true → mayTake takesCards t j ≡ true
-unfolding permitsDouble
-double-takes t j e =
-    let h = playedOf (waitingHandOf t j) in
-    let two = and-eq-true-iff (mayTake takesCards t j && hasTwoCards h) (eqb (t .options .double) 1 || eqb (total (h .cards)) 11) .0 e .0 in
-    and-eq-true-iff (mayTake takesCards t j) (hasTwoCards h) .0 two .0
+-- a hand that may double: it takes cards, has two of them, and the option permits their total
+module _ (o : Options) (up many : ℕ) (h : Played) (permitted : permitsDouble o up many h ≡ true) where
+  permits : (k : ℕ) → getD (takesCards o up many h ∷ hasTwoCards h ∷ (eqb (o .double) 1 || eqb (total (h .cards)) 11) ∷ []) k true ≡ true
+  unfolding permitsDouble
+  permits = and-at (takesCards o up many h ∷ hasTwoCards h ∷ (eqb (o .double) 1 || eqb (total (h .cards)) 11) ∷ []) permitted
+
+  -- with the card it is a doubled hand: its first two are those that it had
+  doubled : (card : ℕ) (cards : List ℕ) → cards ≡ h .cards ++ (card ∷ []) → soundDouble o (played cards (h .origin) byDouble) ≡ true
+  unfolding soundDouble takesCards hasTwoCards
+  doubled card cards more =
+      let two : length (h .cards) ≡ 2 = eqb-true (length (h .cards)) 2 (permits 1) in
+      let takes = and-at (waits o up many h ∷ not (eqb (h .origin) splitAces) ∷ ltb (total (h .cards)) 21 ∷ []) (permits 0) in
+      let three : length cards ≡ 3 = ap length more ∙ length-append (h .cards) (card ∷ []) ∙ omega arith in
+      let had : take 2 cards ≡ h .cards = ap (take 2) more ∙ take-append-le 2 (h .cards) (card ∷ []) (omega arith) ∙ take-all 2 (h .cards) (omega arith) in
+      simp (eq-eqb (length cards) 3 three, had, takes 1, takes 2, permits 2)
 
 module _ (t : Table) (at : At) (order : List ℕ) where
   growing : Growing t (entry (Double at) order) (at .seat) (stake (seatAt t (at .seat))) byDouble
@@ -68,14 +83,22 @@ module _ (t : Table) (at : At) (order : List ℕ) where
         takes = λ staked c. refl;
         decides = λ c h same still-open. ap (λ (x : Played). set (hands (seatAt t j)) (waitingPlaceOf t j) (finished (grown x (nextCard c 0)) byDouble)) same;
         lays-it = simp (eq-eqb j j refl);
-        in-code = omega arith;
         wager-is = λ h code. omega (arith, wager-double (stake (seatAt t j)) h code);
       }
 
-  allowed : DoubleAccepted t (at .seat) → Allowed t (at .seat) (stake (seatAt t (at .seat)))
-  allowed a = record { below = takes-below t (at .seat) (double-takes t (at .seat) (a .permitted)); purse-has = a .enough; left = a .left }
+  allowed : DoubleAccepted t (at .seat) → Allowed t (at .seat) (stake (seatAt t (at .seat))) byDouble
+  unfolding soundEnding
+  allowed a =
+      let h = playedOf (waitingHandOf t (at .seat)) in
+      let many = length (hands (seatAt t (at .seat))) in
+      record {
+        below = takes-below t (at .seat) (permits (t .options) (up t) many h (a .permitted) 0);
+        fits = doubled (t .options) (up t) many h (a .permitted) (cardAhead t 0) (cardsOf (grownHand t (at .seat) byDouble .hand));
+        purse-has = a .enough;
+        left = a .left;
+      }
 
   pub double-decides : Shaped t → Sound t → first (doubleConditions t (at .seat)) ≡ 0 → Decision t (entry (Double at) order) (doubleEffect t (at .seat))
   double-decides shaped sound e =
       let a = double-accepted t (at .seat) e in
-      card-decides t (entry (Double at) order) (at .seat) (stake (seatAt t (at .seat))) byDouble shaped sound (turn-waiting t shaped sound (at .seat) (a .turn)) growing (allowed a)
+      card-decides t (entry (Double at) order) (at .seat) (stake (seatAt t (at .seat))) byDouble shaped sound (a .turn) growing (allowed a)

@@ -20,12 +20,13 @@ use Rattle.history.specs.Money.{lays}
 use Rattle.table.specs.declared.Table.{Table}
 use Rattle.table.specs.Seat.{stake, hands}
 use Rattle.table.specs.Table.{seatAt, cardsLeft}
+use Rattle.table.specs.Broken.{soundEnding}
 use Rattle.table.specs.Shape.{Shaped}
 use Rattle.table.specs.Aids.Sound.{Sound}
 use Rattle.decisions_spec.specs.Turn.{waitingPlaceOf, mayTake}
 use Rattle.decisions_spec.specs.Draw.{drawConditions, drawEffect}
 use Rattle.decisions_spec.proofs.Decision.{Decision}
-use Rattle.decisions_spec.proofs.Turn.{TurnAccepted, turn-accepted, turn-waiting}
+use Rattle.decisions_spec.proofs.Turn.{TurnAccepted, turn-accepted}
 use Rattle.decisions_spec.proofs.Card.{Growing, Allowed, takes-below, card-decides}
 
 -- what its conditions give
@@ -54,15 +55,14 @@ module _ (t : Table) (at : At) (order : List ℕ) where
             ap (λ (x : Played). set (hands (seatAt t j)) (waitingPlaceOf t j) (grown x (nextCard c 0))) same
             ∙ ap (λ (n : ℕ). set (hands (seatAt t j)) (waitingPlaceOf t j) (played (h .cards ++ (nextCard c 0 ∷ [])) (h .origin) n)) still-open;
         lays-it = simp (eq-eqb j j refl);
-        in-code = omega arith;
         wager-is = λ h code. omega (arith, wager-single (stake (seatAt t j)) h (λ b. omega arith));
       }
 
-  allowed : DrawAccepted t (at .seat) → Allowed t (at .seat) 0
-  unfolding permitsDraw
-  allowed a = record { below = takes-below t (at .seat) (a .permitted); purse-has = omega arith; left = a .left }
+  allowed : DrawAccepted t (at .seat) → Allowed t (at .seat) 0 notEnded
+  unfolding permitsDraw soundEnding
+  allowed a = record { below = takes-below t (at .seat) (a .permitted); fits = λ cards. refl; purse-has = omega arith; left = a .left }
 
   pub draw-decides : Shaped t → Sound t → first (drawConditions t (at .seat)) ≡ 0 → Decision t (entry (Draw at) order) (drawEffect t (at .seat))
   draw-decides shaped sound e =
       let a = draw-accepted t (at .seat) e in
-      card-decides t (entry (Draw at) order) (at .seat) 0 notEnded shaped sound (turn-waiting t shaped sound (at .seat) (a .turn)) growing (allowed a)
+      card-decides t (entry (Draw at) order) (at .seat) 0 notEnded shaped sound (a .turn) growing (allowed a)

@@ -1,27 +1,32 @@
 -- A decision that ends a hand and moves no money and no card: stand, even, five and surrender. The wager stays S: only double has another.
-use mathlib.Core.Path.{_≡_, refl, _∙_, ap}
-use mathlib.Core.Bool.{false, _||_, and-false}
-use Prim.Native.Nat.{ℕ, _≤_}
+use mathlib.Core.Path.{_≡_, refl, sym, _∙_, ap}
+use mathlib.Core.Bool.{true, false, _||_, and-false}
+use Prim.Native.Nat.{ℕ, _<_}
 use native.Mathlib.Omega.{arith}
-use lib.ListN.{getD, set}
+use lib.Dec.{ltb}
+use lib.ListN.{length, getD, set}
+use borrow.Author.Tests.{lt-ltb}
 use Rattle.lists.specs.Sum.{sumOf}
-use Rattle.lists.proofs.Tests.{or-eq-false}
+use Rattle.lists.proofs.Tests.{or-eq-false, any-set-or}
 use Rattle.rules.specs.SeatHand.{Played, playedOf, byDouble}
+use Rattle.rules.proofs.drew.Laws.{drew-same}
 use Rattle.payment.proofs.Bounds.{wager-single, prize-same}
-use Rattle.history.specs.Entry.{Entry, isInsure, isDraw, isDouble, isSplit}
+use Rattle.history.specs.Entry.{Entry, isInsure, isDraw, isDouble, isSplit, isSurrender, isDecision}
 use Rattle.history.specs.Cards.{Cards, callTakes}
-use Rattle.history.specs.Hands.{decide, missingHand, finished}
+use Rattle.history.specs.Hands.{missingHand, finished}
 use Rattle.history.specs.Money.{lays, wins}
 use Rattle.table.specs.declared.Seat.{Seat}
 use Rattle.table.specs.declared.Table.{Table}
 use Rattle.table.specs.Seat.{stake, hands}
-use Rattle.table.specs.Table.{withSeat, seatAt}
+use Rattle.table.specs.Table.{withSeat, seatAt, up}
+use Rattle.table.specs.Broken.{soundOrigin, soundEnding}
 use Rattle.table.specs.Shape.{Shaped}
 use Rattle.table.specs.Aids.Sound.{Sound}
-use Rattle.table.proofs.SeatHands.{hand-is}
+use Rattle.table.proofs.SeatHands.{how-many, hand-is}
+use Rattle.agreement.proofs.Events.{Events, ending}
 use Rattle.decisions_spec.specs.Place.{placeOf, withPlace, endedBy}
 use Rattle.decisions_spec.specs.Turn.{waitingPlaceOf, endEffect}
-use Rattle.decisions_spec.proofs.Decision.{Guest, no-kind, not-deal, not-stake, of-seat, draws-none, Decision}
+use Rattle.decisions_spec.proofs.Decision.{makes, Guest, no-kind, not-deal, not-stake, of-seat, draws-none, Decision}
 use Rattle.decisions_spec.proofs.Acting.{Waiting}
 use Rattle.decisions_spec.proofs.Turn.{TurnAccepted, turn-waiting}
 use Rattle.decisions_spec.proofs.HandChange.{HandChange, hand-decided}
@@ -30,12 +35,14 @@ use Rattle.decisions_spec.proofs.HandChange.{HandChange, hand-decided}
 abbrev ended-seat : Table → ℕ → ℕ → ℕ → Seat
 ended-seat t j p code = withPlace (seatAt t j) p (endedBy (placeOf (seatAt t j) p) code)
 
--- what the history makes of the call
+-- what the history makes of the call; the ending fits the hand
 pub record Ends (t : Table) (e : Entry) (j p code : ℕ) : Type 0 where
   pub guest : Guest e j
   pub plain : isInsure e || isDraw e || isDouble e || isSplit e ≡ false
-  pub decides : (c : Cards) → decide (hands (seatAt t j)) (waitingPlaceOf t j) c e ≡ set (hands (seatAt t j)) p (finished (getD (hands (seatAt t j)) p missingHand) code)
-  pub in-code : code ≤ 5
+  pub ends-one : isDecision e ≡ true
+  pub decides : (c : Cards) → makes (hands (seatAt t j)) (waitingPlaceOf t j) c e ≡ set (hands (seatAt t j)) p (finished (getD (hands (seatAt t j)) p missingHand) code)
+  pub some-code : 0 < code
+  pub fits : soundEnding (t .options) (up t) (seatAt t j .hands .many) (playedOf (endedBy (placeOf (seatAt t j) p) code)) ≡ true
   pub single : code ≡ byDouble → ⊥
 
 module _ (t : Table) (e : Entry) (j p code : ℕ) (d : Ends t e j p code) where
@@ -54,9 +61,20 @@ module _ (t : Table) (e : Entry) (j p code : ℕ) (d : Ends t e j p code) where
   unfolding callTakes
   takes-none staked c = simp (not-deal e j (d .guest), plains .1, plains .2, plains .3, no-kind e j (d .guest) 15 (λ h. omega arith))
 
-  end-change : Sound t → Waiting t j p → HandChange t e j p (t .tray) (seatAt t j .money) (endedBy (placeOf (seatAt t j) p) code) (t .shoe) 0 0 0
-  unfolding wins sumOf
-  end-change sound w =
+  -- the hand keeps its cards and has ended
+  end-events : Waiting t j p → Events e (hands (seatAt t j)) (set (hands (seatAt t j)) p (playedOf (endedBy (placeOf (seatAt t j) p) code)))
+  end-events w =
+      let hs = hands (seatAt t j) in
+      let new = playedOf (endedBy (placeOf (seatAt t j) p) code) in
+      let old = hand-is (seatAt t j) p (w .seat .shaped) (w .seat .few) (w .here) in
+      let inside : p < length hs = omega (arith, how-many (seatAt t j) p (w .seat .shaped) (w .seat .few) (w .here), w .here) in
+      ending e hs (set hs p new) (simp (plains .1, plains .2, plains .3)) (d .ends-one)
+      (drew-same hs p new missingHand (ap (λ (x : Played). x .cards) (sym old)))
+      (any-set-or (λ x. ltb 0 (x .ended)) hs p new missingHand true inside (lt-ltb 0 code (d .some-code)))
+
+  end-change : Sound t → (isSurrender e ≡ false → TurnAccepted t j) → Waiting t j p → HandChange t e j p (t .tray) (seatAt t j .money) (endedBy (placeOf (seatAt t j) p) code) (t .shoe) 0 0 0
+  unfolding wins sumOf soundOrigin
+  end-change sound turn w =
       let s = seatAt t j in
       let h = placeOf s p in
       let new = endedBy h code in
@@ -67,9 +85,11 @@ module _ (t : Table) (e : Entry) (j p code : ℕ) (d : Ends t e j p code) where
         same-stake = refl;
         same-insurance = refl;
         full = w .seat .shaped .twenty-cards p (omega arith);
-        sound-hand = record { two-cards = was .two-cards; twenty-cards = was .twenty-cards; played = was .played; origin = was .origin; ended = d .in-code };
+        sound-hand = record { two-cards = was .two-cards; twenty-cards = was .twenty-cards; played = was .played; origin = was .origin; ended = d .fits };
+        turn-is = turn;
         decides =
             λ c agree. d .decides c ∙ ap (λ (x : Played). set (hands s) p (finished x code)) (hand-is s p (w .seat .shaped) (w .seat .few) (w .here));
+        events = end-events w;
         lays-it = lays-none (stake s);
         wins-it = λ c agree. simp (plains .1, plains .2, and-false);
         wager-grows = omega (arith, wager-single (stake s) (playedOf new) (d .single), wager-single (stake s) (playedOf h) (λ b. omega arith));
@@ -81,8 +101,8 @@ module _ (t : Table) (e : Entry) (j p code : ℕ) (d : Ends t e j p code) where
         cards-grow = λ v. omega arith;
       }
 
-  pub end-decides : Shaped t → Sound t → Waiting t j p → Decision t e (withSeat t j (ended-seat t j p code))
-  end-decides shaped sound w =
+  pub end-decides : Shaped t → Sound t → (isSurrender e ≡ false → TurnAccepted t j) → Waiting t j p → Decision t e (withSeat t j (ended-seat t j p code))
+  end-decides shaped sound turn w =
       record {
         j = j;
         tray = t .tray;
@@ -92,10 +112,10 @@ module _ (t : Table) (e : Entry) (j p code : ℕ) (d : Ends t e j p code) where
         more = 0;
         won = 0;
         is = refl;
-        decided = hand-decided t e j p (t .tray) (seatAt t j .money) (endedBy (placeOf (seatAt t j) p) code) (t .shoe) 0 0 0 shaped sound w (end-change sound w);
+        decided = hand-decided t e j p (t .tray) (seatAt t j .money) (endedBy (placeOf (seatAt t j) p) code) (t .shoe) 0 0 0 shaped sound w (end-change sound turn w);
       }
 
 -- in turn it is the hand whose turn it is
 pub end-in-turn : (t : Table) (e : Entry) (j code : ℕ) → Ends t e j (waitingPlaceOf t j) code → Shaped t → Sound t → TurnAccepted t j → Decision t e (endEffect code t j)
 unfolding endEffect
-end-in-turn t e j code d shaped sound a = end-decides t e j (waitingPlaceOf t j) code d shaped sound (turn-waiting t shaped sound j a)
+end-in-turn t e j code d shaped sound a = end-decides t e j (waitingPlaceOf t j) code d shaped sound (λ in-turn. a) (turn-waiting t shaped sound j a)

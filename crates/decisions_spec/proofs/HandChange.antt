@@ -1,6 +1,6 @@
 -- A decision that puts another hand for the one at p, which waits: what the seat's sums and views come to follows from that hand's. Stand, even, five,
 -- surrender, draw and double are such; a split puts two.
-use mathlib.Core.Path.{_≡_, sym, _∙_, ap}
+use mathlib.Core.Path.{_≡_, sym, _∙_, ap, subst}
 use mathlib.Core.Bool.{false}
 use Prim.Native.Nat.{ℕ, _+_}
 use native.Mathlib.Omega.{arith}
@@ -11,24 +11,25 @@ use Rattle.rules.specs.declared.seat_hand.SeatHand.{SeatHand}
 use Rattle.rules.specs.SeatHand.{Played, playedOf}
 use Rattle.payment.specs.Wager.{wager}
 use Rattle.payment.specs.Prize.{prize}
-use Rattle.history.specs.Entry.{Entry, isInsure}
+use Rattle.history.specs.Entry.{Entry, isInsure, isSurrender}
 use Rattle.history.specs.Cards.{Cards, callTakes}
-use Rattle.history.specs.Hands.{decide}
 use Rattle.history.specs.Money.{lays, wins}
 use Rattle.table.specs.declared.Money.{Money}
 use Rattle.table.specs.declared.Seat.{Seat}
 use Rattle.table.specs.declared.Shoe.{Shoe}
 use Rattle.table.specs.declared.Table.{Table}
 use Rattle.table.specs.Seat.{purse, stake, insurance, hands, laid, prizes, seatCards}
-use Rattle.table.specs.Table.{seatAt, tableShoe}
+use Rattle.table.specs.Table.{seatAt, up, tableShoe}
 use Rattle.table.specs.Shape.{Shaped, ShapedSeat}
 use Rattle.table.specs.Aids.Sound.{Sound, SoundHand}
 use Rattle.table.proofs.SeatHands.{laid-playing, seat-cards, with-hand, hands-with, shaped-with, each-with, sum-with}
 use Rattle.agreement.specs.Aids.Agrees.{CardsAgree}
+use Rattle.agreement.proofs.Events.{Events}
 use Rattle.decisions_spec.specs.Place.{placeOf}
 use Rattle.decisions_spec.specs.Turn.{waitingPlaceOf}
 use Rattle.decisions_spec.proofs.Acting.{Waiting, still-insured}
-use Rattle.decisions_spec.proofs.Decision.{Guest, Draws, Decided}
+use Rattle.decisions_spec.proofs.Turn.{TurnAccepted}
+use Rattle.decisions_spec.proofs.Decision.{makes, Guest, Draws, Decided}
 
 module _ (t : Table) (e : Entry) (j p tray : ℕ) (m : Money) (h : SeatHand) (shoe : Shoe) (k more won : ℕ) where
   pub record HandChange : Type 0 where
@@ -37,8 +38,10 @@ module _ (t : Table) (e : Entry) (j p tray : ℕ) (m : Money) (h : SeatHand) (sh
     pub same-stake : m .stake ≡ stake (seatAt t j)
     pub same-insurance : m .insurance ≡ insurance (seatAt t j)
     pub full : length (h .hand .cards) ≡ 20
-    pub sound-hand : SoundHand h
-    pub decides : (c : Cards) → CardsAgree c t → decide (hands (seatAt t j)) (waitingPlaceOf t j) c e ≡ set (hands (seatAt t j)) p (playedOf h)
+    pub sound-hand : SoundHand (t .options) (up t) (seatAt t j .hands .many) h
+    pub turn-is : isSurrender e ≡ false → TurnAccepted t j
+    pub decides : (c : Cards) → CardsAgree c t → makes (hands (seatAt t j)) (waitingPlaceOf t j) c e ≡ set (hands (seatAt t j)) p (playedOf h)
+    pub events : Events e (hands (seatAt t j)) (set (hands (seatAt t j)) p (playedOf h))
     pub lays-it : lays j (stake (seatAt t j)) e ≡ more
     pub wins-it : (c : Cards) → CardsAgree c t → wins (t .options) c j (stake (seatAt t j)) (hands (seatAt t j)) e ≡ won
     pub wager-grows : wager (stake (seatAt t j)) (playedOf h) ≡ wager (stake (seatAt t j)) (playedOf (placeOf (seatAt t j) p)) + more
@@ -87,10 +90,12 @@ module _ (t : Table) (e : Entry) (j p tray : ℕ) (m : Money) (h : SeatHand) (sh
                 in-round = w .seat .playing .in-round;
                 staked = omega (arith, w .seat .acting .staked, d .same-stake);
                 within = w .seat .playing .within;
-                each = each-with (seatAt t j) p (w .seat .shaped) (w .seat .few) (w .here) m h (w .seat .playing .each) (d .sound-hand);
+                each = each-with (seatAt t j) p (w .seat .shaped) (w .seat .few) (w .here) m h (t .options) (up t) (w .seat .playing .each) (d .sound-hand);
               };
           insurance-is = d .same-insurance ∙ sym (simp (d .no-insure));
+          turn-is = λ decides in-turn. d .turn-is in-turn;
           hands-are = λ c agree. hands-with (seatAt t j) p (w .seat .shaped) (w .seat .few) (w .here) m h ∙ sym (d .decides c agree);
+          events = subst (Events e (hands (seatAt t j))) (sym (hands-with (seatAt t j) p (w .seat .shaped) (w .seat .few) (w .here) m h)) (d .events);
           lays-it = d .lays-it;
           wins-it = d .wins-it;
           laid-grows = now-laid;

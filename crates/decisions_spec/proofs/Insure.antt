@@ -1,6 +1,6 @@
 -- An accepted insurance: the amount goes from the purse to the layout, and nothing else changes.
-use mathlib.Core.Path.{_≡_, refl}
-use mathlib.Core.Bool.{true, and-false}
+use mathlib.Core.Path.{_≡_, refl, sym}
+use mathlib.Core.Bool.{true, and-false, true≢false}
 use mathlib.Core.List.{List}
 use Prim.Native.Nat.{ℕ, _-_, _≤_}
 use native.Mathlib.Omega.{arith}
@@ -14,16 +14,16 @@ use Rattle.call.specs.Refusal.{first}
 use Rattle.call.proofs.Refusals.{none-hold}
 use Rattle.history.specs.Aids.MakeEntry.{entry}
 use Rattle.history.specs.Cards.{callTakes}
-use Rattle.history.specs.Hands.{decide}
 use Rattle.history.specs.Money.{lays, wins}
 use Rattle.table.specs.declared.Seat.{Seat}
 use Rattle.table.specs.declared.Table.{Table}
-use Rattle.table.specs.Seat.{money, makeSeat, purse, stake, insurance, prizes}
+use Rattle.table.specs.Seat.{money, makeSeat, purse, stake, insurance, hands, prizes}
 use Rattle.table.specs.Table.{seatAt, up}
 use Rattle.options.specs.Permitted.{insurancePermitted}
 use Rattle.table.specs.Shape.{Shaped, ShapedSeat}
 use Rattle.table.specs.Aids.Sound.{Sound}
 use Rattle.table.proofs.SeatHands.{laid-playing}
+use Rattle.agreement.proofs.Events.{no-event}
 use Rattle.answer.specs.Conditions.{seatConditions}
 use Rattle.decisions_spec.specs.Insure.{insureConditions, insureEffect}
 use Rattle.decisions_spec.proofs.Acting.{Acting, acting, Staked, staked-seat}
@@ -56,7 +56,7 @@ insured-seat t j n = makeSeat (money (purse (seatAt t j) - n) (stake (seatAt t j
 
 module _ (t : Table) (at : At) (n : ℕ) (order : List ℕ) (sound : Sound t) (a : InsureAccepted t (at .seat) n) where
   decided : Staked t (at .seat) → Decided t (entry (Insure at n) order) (at .seat) (t .tray) (insured-seat t (at .seat) n) (t .shoe) 0 n 0
-  unfolding lays wins decide callTakes sumOf prizes
+  unfolding lays wins callTakes sumOf prizes
   decided seat =
       let shaped : ShapedSeat (insured-seat t (at .seat) n) = record { four-places = seat .shaped .four-places; twenty-cards = seat .shaped .twenty-cards } in
       record {
@@ -68,7 +68,9 @@ module _ (t : Table) (at : At) (n : ℕ) (order : List ℕ) (sound : Sound t) (a
         has-hands = seat .some;
         playing = record { in-round = seat .playing .in-round; staked = a .acting .staked; within = seat .playing .within; each = seat .playing .each };
         insurance-is = refl;
+        turn-is = λ decides. absurd (true≢false (sym decides));
         hands-are = λ c agree. refl;
+        events = no-event (entry (Insure at n) order) (hands (seatAt t (at .seat))) refl;
         lays-it = simp (eq-eqb (at .seat) (at .seat) refl);
         wins-it = λ c agree. simp and-false;
         laid-grows = omega (arith, laid-playing (insured-seat t (at .seat) n) shaped (seat .some), laid-playing (seatAt t (at .seat)) (seat .shaped) (seat .some), a .none-yet);

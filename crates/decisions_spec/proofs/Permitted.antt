@@ -23,15 +23,15 @@ use Rattle.table.specs.Seat.{missingPlace, hands}
 use Rattle.table.specs.Table.{seatAt, up}
 use Rattle.table.specs.Shape.{Shaped}
 use Rattle.answer.specs.Conditions.{seatConditions}
-use Rattle.decisions_spec.specs.Progress.{anyDrew}
+use Rattle.table.specs.Progress.{anyDrew}
 use Rattle.decisions_spec.specs.Place.{placeOf}
 use Rattle.decisions_spec.specs.Turn.{waitingPlaceOf, waitingHandOf, mayTake}
 use Rattle.decisions_spec.specs.Stand.{standConditions}
 use Rattle.decisions_spec.specs.Split.{splitConditions}
 use Rattle.decisions_spec.specs.Surrender.{surrenderConditions}
 use Rattle.decisions_spec.specs.Permitted.{Permitted}
-use Rattle.decisions_spec.proofs.Turn.{TurnAccepted, turn-accepted, turn-waits}
-use Rattle.decisions_spec.proofs.Surrender.{surrender-accepted, nobody-split}
+use Rattle.decisions_spec.proofs.Turn.{TurnAccepted, turn-accepted}
+use Rattle.decisions_spec.proofs.Surrender.{surrender-accepted, not-split}
 
 module _ (t : Table) (shaped : Shaped t) (j : ℕ) where
   -- the first waiting hand of a seat that has one lies inside its hands, and waits
@@ -47,7 +47,7 @@ module _ (t : Table) (shaped : Shaped t) (j : ℕ) where
       ∙ first-passes (waits (t .options) (up t) (length (hands s))) (hands s) (playedOf missingPlace) within
 
   turn-hand : TurnAccepted t j → mayTake waits t j ≡ true
-  turn-hand a = hand-waits (a .acting .nine) (turn-waits t j a)
+  turn-hand a = hand-waits (a .acting .nine) (a .waits)
 
   stand-permitted : first (standConditions t j) ≡ 0 → mayTake permitsStand t j ≡ true
   unfolding permitsStand allOf
@@ -65,7 +65,7 @@ module _ (t : Table) (shaped : Shaped t) (j : ℕ) where
   surrender-permitted e =
       let a = surrender-accepted t j e in
       let (_, (_, (_, (_, (_, (_, (no-ace, _))))))) = none-hold (surrenderConditions t j) refl e in
-      let only : waitingPlaceOf t j ≡ 0 = omega (arith, nobody-split t j shaped (a .acting .nine) (a .early), inside (a .waits)) in
+      let only : waitingPlaceOf t j ≡ 0 = omega (arith, not-split t j shaped (a .acting .nine) (a .early), inside (a .waits)) in
       let waiting = rw only at (hand-waits (a .acting .nine) (a .waits)) in
       simp (waiting, a .early, no-ace)
 

@@ -1,16 +1,15 @@
 -- An accepted split: two hands for the pair, each of one of its cards and a drawn one, and the stake again for the new hand. Two cards are no prize hand.
 use mathlib.Core.Path.{_≡_, refl, sym, _∙_, ap, ap₂}
-use mathlib.Core.Bool.{and-false, and-eq-true-iff}
+use mathlib.Core.Bool.{cond, and-false, and-eq-true-iff}
 use mathlib.Core.List.{List, [], _∷_}
 use Prim.Native.Nat.{ℕ, _+_, _-_, _≤_, _<_}
 use native.Mathlib.Omega.{arith}
 use lib.Dec.{eqb}
 use lib.ListN.{length, getD, take}
 use lib.Seq.{take-all}
-use borrow.Author.Tests.{leb-false, ltb-false, eqb-true, eq-eqb, not-false}
+use borrow.Author.Tests.{leb-false, ltb-false, eqb-true, eq-eqb, ne-eqb, not-false}
 use Rattle.lists.specs.Sum.{sumOf}
 use Rattle.lists.specs.Tests.{allOf}
-use Rattle.lists.proofs.Picks.{cond-most}
 use Rattle.lists.proofs.Takes.{take-two}
 use Rattle.lists.proofs.Inserts.{two-for}
 use Rattle.cards.specs.Card.{rankOf, isAce}
@@ -18,9 +17,12 @@ use Rattle.cards.specs.Hand.{cardsOf, withCard}
 use Rattle.cards.specs.Length.{couldBePlayed}
 use Rattle.cards.specs.Pair.{isPair}
 use Rattle.cards.proofs.prize_hand.PrizeTotal.{no-prize-of-two}
+use Rattle.options.specs.declared.Options.{Options}
 use Rattle.options.proofs.Facts.{in-range-facts}
 use Rattle.rules.specs.declared.seat_hand.SeatHand.{SeatHand}
-use Rattle.rules.specs.SeatHand.{Played, playedOf}
+use Rattle.rules.specs.SeatHand.{Played, playedOf, split, splitAces}
+use Rattle.rules.proofs.drew.Laws.{drew-hands}
+use Rattle.rules.proofs.seat_hand.Places.{many-hands}
 use Rattle.payment.specs.Wager.{wager}
 use Rattle.payment.specs.Prize.{prize}
 use Rattle.payment.proofs.Bounds.{wager-single, prize-none}
@@ -36,17 +38,19 @@ use Rattle.table.specs.declared.Seat.{Seat}
 use Rattle.table.specs.declared.Table.{Table}
 use Rattle.table.specs.Seat.{money, purse, stake, insurance, hands, laid, prizes, seatCards}
 use Rattle.table.specs.Shoe.{withDrawn}
-use Rattle.table.specs.Table.{seatAt, cardsLeft, tableShoe}
+use Rattle.table.specs.Table.{seatAt, up, cardsLeft, tableShoe}
+use Rattle.table.specs.Broken.{soundOrigin, soundEnding}
 use Rattle.table.specs.Shape.{Shaped, ShapedSeat}
 use Rattle.table.specs.Aids.Sound.{Sound, SoundHand}
 use Rattle.table.proofs.SeatHands.{laid-playing, seat-cards, with-two, how-many, hand-is, hands-two, shaped-two, each-two, sum-two}
 use Rattle.table.proofs.NextCards.{next-two}
+use Rattle.agreement.proofs.Events.{Events, drawing}
 use Rattle.agreement.specs.Aids.Agrees.{CardsAgree}
 use Rattle.decisions_spec.specs.Turn.{waitingPlaceOf, waitingHandOf}
 use Rattle.decisions_spec.specs.Card.{cardAhead}
 use Rattle.decisions_spec.specs.Split.{splitConditions, pairCardOf, splitHand, splitEffect}
 use Rattle.decisions_spec.proofs.Acting.{Waiting, still-insured}
-use Rattle.decisions_spec.proofs.Decision.{Decided, draws-some, Decision}
+use Rattle.decisions_spec.proofs.Decision.{makes, Decided, draws-some, Decision}
 use Rattle.decisions_spec.proofs.Turn.{TurnAccepted, turn-accepted, turn-waiting}
 use Rattle.decisions_spec.proofs.Card.{next-card}
 
@@ -67,9 +71,12 @@ module _ (kept card : ℕ) where
   unfolding withCard
   split-full = refl
 
-  split-sound : SoundHand (splitHand kept card)
-  unfolding withCard couldBePlayed
-  split-sound = record { two-cards = omega arith; twenty-cards = omega arith; played = refl; origin = cond-most (isAce kept) (omega arith) (omega arith); ended = omega arith }
+  -- sound beside another
+  split-sound : (o : Options) (up many : ℕ) → 2 ≤ many → SoundHand o up many (splitHand kept card)
+  unfolding withCard couldBePlayed soundOrigin soundEnding
+  split-sound o up many beside =
+      let origin = cond (isAce kept) splitAces split in
+      record { two-cards = omega arith; twenty-cards = omega arith; played = refl; origin = simp (ne-eqb many 1 (λ one. omega arith)) (eq-eqb origin origin refl); ended = refl }
 
 -- what its conditions give
 pub record SplitAccepted (t : Table) (j : ℕ) : Type 0 where
@@ -129,6 +136,9 @@ module _ (t : Table) (at : At) (order : List ℕ) (shaped : Shaped t) (sound : S
   fewer : s .hands .many < 4
   fewer = omega (arith, many, a .room, in-range-facts (t .options) (sound .options) .hands-most)
 
+  beside : 2 ≤ s .hands .many + 1
+  beside = omega (arith, w .here)
+
   now-shaped : ShapedSeat now
   now-shaped = shaped-two s p (w .seat .shaped) (w .seat .few) (w .here) new-money parent new (split-full kept-first drawn-first) (split-full kept-second drawn-second)
 
@@ -174,7 +184,7 @@ module _ (t : Table) (at : At) (order : List ℕ) (shaped : Shaped t) (sound : S
         ap (sumOf v) (next-two t shaped sound (omega (arith, a .left))),
       )
 
-  now-hands : (c : Cards) → CardsAgree c t → hands now ≡ decide (hands s) p c (entry (Split at) order)
+  now-hands : (c : Cards) → CardsAgree c t → hands now ≡ makes (hands s) p c (entry (Split at) order)
   unfolding decide splitHands
   now-hands c agree =
       let hs = hands s in
@@ -184,6 +194,10 @@ module _ (t : Table) (at : At) (order : List ℕ) (shaped : Shaped t) (sound : S
       ∙ ap₂ (two-for hs p) (split-played kept-first drawn-first) (split-played kept-second drawn-second)
       ∙ ap₂ (both old) (sym (next-card t c 0 agree (omega (arith, a .left)))) (sym (next-card t c 1 agree (omega (arith, a .left))))
       ∙ ap (λ (h : Played). both h (nextCard c 0) (nextCard c 1)) (sym (hand-is s p (w .seat .shaped) (w .seat .few) (w .here)))
+
+  -- there are two hands or more
+  split-events : Events (entry (Split at) order) (hands s) (hands now)
+  split-events = drawing (entry (Split at) order) (hands s) (hands now) refl (drew-hands (hands now) (omega (arith, many-hands (now .hands) (now-shaped .four-places), w .here)))
 
   decided : Decided t (entry (Split at) order) (at .seat) (t .tray) now (withDrawn (t .shoe) 2) 2 (stake s) 0
   unfolding lays wins callTakes
@@ -201,11 +215,13 @@ module _ (t : Table) (at : At) (order : List ℕ) (shaped : Shaped t) (sound : S
               staked = w .seat .acting .staked;
               within = omega (arith, many, a .room);
               each =
-                  each-two s p (w .seat .shaped) (w .seat .few) (w .here) new-money parent new fewer (w .seat .playing .each)
-                  (split-sound kept-first drawn-first) (split-sound kept-second drawn-second);
+                  each-two s p (w .seat .shaped) (w .seat .few) (w .here) new-money parent new (t .options) (up t) fewer (w .seat .playing .each)
+                  (split-sound kept-first drawn-first (t .options) (up t) (s .hands .many + 1) beside) (split-sound kept-second drawn-second (t .options) (up t) (s .hands .many + 1) beside);
             };
         insurance-is = refl;
+        turn-is = λ decides in-turn. a .turn;
         hands-are = now-hands;
+        events = split-events;
         lays-it = simp (eq-eqb (at .seat) (at .seat) refl);
         wins-it = λ c agree. simp and-false;
         laid-grows = now-laid;

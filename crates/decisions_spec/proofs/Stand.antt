@@ -11,6 +11,7 @@ use Rattle.call.specs.Refusal.{first}
 use Rattle.history.specs.Aids.MakeEntry.{entry}
 use Rattle.history.specs.Hands.{decide}
 use Rattle.table.specs.declared.Table.{Table}
+use Rattle.table.specs.Broken.{soundEnding}
 use Rattle.table.specs.Shape.{Shaped}
 use Rattle.table.specs.Aids.Sound.{Sound}
 use Rattle.answer.specs.Conditions.{seatConditions}
@@ -22,8 +23,8 @@ use Rattle.decisions_spec.proofs.End.{Ends, end-in-turn}
 
 pub stand-decides : (t : Table) (at : At) (order : List ℕ) → Shaped t → Sound t → first (standConditions t (at .seat)) ≡ 0
     → Decision t (entry (Stand at) order) (standEffect t (at .seat))
-unfolding turnConditions seatConditions allOf decide
+unfolding turnConditions seatConditions allOf decide soundEnding
 stand-decides t at order shaped sound e =
     let ends : Ends t (entry (Stand at) order) (at .seat) (waitingPlaceOf t (at .seat)) byStand =
-    record { guest = record { least = omega arith; most = omega arith; seat-is = refl }; plain = refl; decides = λ c. refl; in-code = omega arith; single = λ h. omega arith } in
+    record { guest = record { least = omega arith; most = omega arith; seat-is = refl }; plain = refl; ends-one = refl; decides = λ c. refl; some-code = omega arith; fits = refl; single = λ h. omega arith } in
     end-in-turn t (entry (Stand at) order) (at .seat) byStand ends shaped sound (turn-accepted t (at .seat) [] refl e .0)

@@ -10,7 +10,7 @@ use Rattle.table.specs.declared.Table.{Table}
 use Rattle.table.specs.Seat.{money, makeSeat, purse, stake, insurance}
 use Rattle.table.specs.Table.{withSeat, seatAt, up}
 use Rattle.options.specs.Permitted.{insurancePermitted}
-use Rattle.decisions_spec.specs.Progress.{anyDecided}
+use Rattle.table.specs.Progress.{anyDecided}
 use Rattle.answer.specs.Conditions.{inRound, seatConditions, noStake}
 
 unfoldable pub insureConditions : Table → ℕ → ℕ → List Condition

@@ -1,7 +1,6 @@
 -- Insurance and the seven decisions of document 01, "The seventeen calls", the guest: for each call its conditions, in the order of their numbers, and
 -- its effect. A call is refused by the first condition that holds and leaves the table as it was; else the table after it is its effect.
 -- What they share.
-pub mod Progress
 pub mod Place
 pub mod Turn
 pub mod Card

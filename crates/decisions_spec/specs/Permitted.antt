@@ -11,7 +11,7 @@ use Rattle.rules.specs.Leaving.{permitsSurrender}
 use Rattle.table.specs.declared.Table.{Table}
 use Rattle.table.specs.Seat.{hands}
 use Rattle.table.specs.Table.{seatAt, up}
-use Rattle.decisions_spec.specs.Progress.{anyDrew}
+use Rattle.table.specs.Progress.{anyDrew}
 use Rattle.decisions_spec.specs.Place.{placeOf}
 use Rattle.decisions_spec.specs.Turn.{mayTake}
 use Rattle.decisions_spec.specs.Stand.{standConditions}

@@ -11,7 +11,7 @@ use Rattle.table.specs.declared.Table.{Table}
 use Rattle.table.specs.Seat.{hands}
 use Rattle.table.specs.Table.{withSeat, seatAt, up}
 use Rattle.decisions_spec.specs.Place.{placeOf, withPlace, endedBy}
-use Rattle.decisions_spec.specs.Progress.{anyDrew}
+use Rattle.table.specs.Progress.{anyDrew}
 use Rattle.answer.specs.Conditions.{inRound, seatConditions, noStake}
 
 -- 12 comes from lateness or from a hand that does not wait; nobody has split then, so the seat has one hand.

@@ -68,6 +68,13 @@ isVoid e = isKind 16 e
 abbrev pub isLoad : Entry → Bool
 isLoad e = isKind 17 e
 
+-- The decisions that draw a card, and all seven.
+abbrev pub isDrawing : Entry → Bool
+isDrawing e = isDraw e || isDouble e || isSplit e
+
+abbrev pub isDecision : Entry → Bool
+isDecision e = isStand e || isSurrender e || isEven e || isFive e || isDrawing e
+
 -- A round ends with close or void.
 abbrev pub isEnd : Entry → Bool
 isEnd e = isClose e || isVoid e

@@ -3,12 +3,13 @@
 use mathlib.Core.Bool.{cond}
 use mathlib.Core.List.{List, [], _∷_, _++_}
 use Prim.Native.Nat.{ℕ, suc, _+_}
-use lib.Dec.{ltb}
+use lib.Dec.{ltb, eqb}
 use lib.ListN.{getD, take, drop, set}
+use Rattle.lists.specs.Below.{firstBelow}
 use Rattle.cards.specs.Card.{isAce}
 use Rattle.options.specs.declared.Options.{Options}
 use Rattle.rules.specs.SeatHand.{Played, dealt, split, splitAces, notEnded, byStand, byDouble, bySurrender, byEven, byFive}
-use Rattle.rules.specs.Turn.{waitingPlace}
+use Rattle.rules.specs.Turn.{seatWaits, waitingPlace}
 use Rattle.history.specs.Entry.{Entry, isOf, isDeal, isStand, isDraw, isDouble, isSplit, isSurrender, isEven, isFive, isEnd}
 use Rattle.history.specs.Rounds.{stakeIn, stakedBelow}
 use Rattle.history.specs.Cards.{Cards, dealBurns, cardsOfHistory}
@@ -48,7 +49,11 @@ splitHands hands p c =
     let pair = getD hands p missingHand .cards in
     take p hands ++ splitOne (getD pair 0 0) (nextCard c 0) ∷ splitOne (getD pair 1 0) (nextCard c 1) ∷ drop (suc p) hands
 
--- What a decision of the seat makes of its hands, p being the place whose turn it is.
+-- The seat whose turn it is (article 6 3)): the first with a waiting hand; the number of seats where it is nobody's. `hands` gives those of each seat.
+abbrev pub turnIn : Options → Cards → (ℕ → List Played) → ℕ
+turnIn o c hands = firstBelow (λ k. seatWaits o (getD (c .bank) 0 0) (hands k)) (o .seats)
+
+-- What a decision in turn makes of the hands of that seat, p being the place whose turn it is.
 unfoldable pub decide : List Played → ℕ → Cards → Entry → List Played
 decide hands p c e =
     let h = getD hands p missingHand in
@@ -56,21 +61,27 @@ decide hands p c e =
     (cond (isDraw e) (set hands p (grown h (nextCard c 0)))
     (cond (isDouble e) (set hands p (finished (grown h (nextCard c 0)) byDouble))
     (cond (isSplit e) (splitHands hands p c)
-    (cond (isSurrender e) (set hands 0 (finished (getD hands 0 missingHand) bySurrender))
     (cond (isEven e) (set hands p (finished h byEven))
     (cond (isFive e) (set hands p (finished h byFive))
-    hands))))))
+    hands)))))
 
--- What a call makes of a seat's hands. `before` and `staked` count staked seats, S is the seat's stake.
-unfoldable pub handsAfter : Options → Cards → ℕ → ℕ → ℕ → ℕ → List Played → Entry → List Played
-handsAfter o c i before staked S hands e =
+-- Surrender goes to the seat's only hand.
+unfoldable pub surrenders : List Played → List Played
+surrenders hands = set hands 0 (finished (getD hands 0 missingHand) bySurrender)
+
+-- What a call makes of the hands of seat i. `before` and `staked` count staked seats, S is the seat's stake, `turn` the seat whose turn it is. A decision in
+-- turn goes to that seat, whichever it names; surrender goes to the one that it names.
+unfoldable pub handsAfter : Options → Cards → ℕ → ℕ → ℕ → ℕ → ℕ → List Played → Entry → List Played
+handsAfter o c i before staked S turn hands e =
     cond (isDeal e) (cond (ltb 0 S) (dealtHand o c before staked ∷ []) [])
     (cond (isEnd e) []
-    (cond (isOf i e) (decide hands (waitingPlace o (getD (c .bank) 0 0) hands) c e)
-    hands))
+    (cond (isSurrender e) (cond (isOf i e) (surrenders hands) hands)
+    (cond (eqb i turn) (decide hands (waitingPlace o (getD (c .bank) 0 0) hands) c e)
+    hands)))
 
 -- The hands of a seat after a list of accepted calls.
 abbrev pub handsIn : Options → List ℕ → List Entry → ℕ → List Played
 handsIn o opening [] i = []
 handsIn o opening (e ∷ es) i =
-    handsAfter o (cardsOfHistory o opening es) i (stakedBelow es i) (stakedBelow es (o .seats)) (stakeIn es i) (handsIn o opening es i) e
+    handsAfter o (cardsOfHistory o opening es) i (stakedBelow es i) (stakedBelow es (o .seats)) (stakeIn es i) (turnIn o (cardsOfHistory o opening es) (λ k. handsIn o opening es k))
+    (handsIn o opening es i) e

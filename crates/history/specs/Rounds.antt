@@ -1,15 +1,24 @@
 -- Document 01, "The history", rounds: a round starts after the opening or after an accepted close or void, and ends with the next of these two.
-use mathlib.Core.Bool.{Bool, true, false, cond, _&&_}
+use mathlib.Core.Bool.{Bool, true, false, cond, _&&_, _||_}
 use mathlib.Core.List.{List, [], _∷_}
 use Prim.Native.Nat.{ℕ}
 use lib.Dec.{ltb}
 use Rattle.lists.specs.Below.{sumBelow}
-use Rattle.history.specs.Entry.{Entry, isOf, isStake, isDeal, isInsure, isEnd, amountOf}
+use Rattle.history.specs.Entry.{Entry, isOf, isStake, isDeal, isInsure, isDrawing, isDecision, isEnd, amountOf}
 
 -- A round is dealt: after its deal, until it ends.
 abbrev pub isDealtRound : List Entry → Bool
 isDealtRound [] = false
 isDealtRound (e ∷ es) = cond (isEnd e) false (cond (isDeal e) true (isDealtRound es))
+
+-- A decision was accepted in this round; and one that draws a card, which makes surrender late.
+abbrev pub decidedIn : List Entry → Bool
+decidedIn [] = false
+decidedIn (e ∷ es) = cond (isEnd e) false (isDecision e || decidedIn es)
+
+abbrev pub drewIn : List Entry → Bool
+drewIn [] = false
+drewIn (e ∷ es) = cond (isEnd e) false (isDrawing e || drewIn es)
 
 -- S: what the seat staked in this round; 0 where it has not.
 abbrev pub stakeIn : List Entry → ℕ → ℕ

@@ -1,6 +1,6 @@
--- Laws of tests and sums over the numbers below a number.
+-- Laws of tests and sums over the numbers below a number, and of the first that passes.
 use mathlib.Core.Path.{_≡_, refl, ap, ap₂, _∙_, sym}
-use mathlib.Core.Bool.{Bool, true, _&&_, and-eq-true-iff, and-true}
+use mathlib.Core.Bool.{Bool, true, false, _&&_, and-eq-true-iff, and-true}
 use mathlib.Core.List.{List, [], _∷_}
 use Prim.Native.Nat.{ℕ, zero, suc, _+_, _≤_, _<_}
 use native.Mathlib.Nat.{not-suc-le-zero, add-zero, add-suc}
@@ -8,8 +8,9 @@ use native.Mathlib.Numerals.{add-one}
 use native.Mathlib.Decide.{decLe}
 use native.Mathlib.Omega.{arith}
 use lib.ListN.{length, getD}
+use borrow.Author.Tests.{lt-ltb, le-ltb}
 use Rattle.lists.specs.Sum.{sumOf}
-use Rattle.lists.specs.Below.{allBelow, sumBelow}
+use Rattle.lists.specs.Below.{allBelow, sumBelow, firstBelow}
 
 -- what every number below passes, one of them passes
 pub all-below : (f : ℕ → Bool) (n k : ℕ) → allBelow f n ≡ true → k < n → f k ≡ true
@@ -66,3 +67,21 @@ pub sum-by-place : {A : Type 0} (f : A → ℕ) (xs : List A) (d : A) → sumOf 
 unfolding sumOf sumBelow
 sum-by-place f [] d = refl
 sum-by-place f (x ∷ xs) d = ap (λ (n : ℕ). f x + n) (sum-by-place f xs d) ∙ sym (sum-below-first (λ i. f (getD (x ∷ xs) i d)) (length xs))
+
+-- where no number below passes, the first is the number itself
+below-none : (f : ℕ → Bool) (n : ℕ) → ((k : ℕ) → k < n → f k ≡ false) → firstBelow f n ≡ n
+unfolding firstBelow
+below-none f zero none = refl
+below-none f (suc n) none = simp (below-none f n (λ k l. none k (omega arith)), le-ltb n n (omega arith), none n (omega arith))
+
+-- nothing below j passes, and j does
+pub first-below : (f : ℕ → Bool) (n j : ℕ) → j < n → ((k : ℕ) → k < j → f k ≡ false) → f j ≡ true → firstBelow f n ≡ j
+unfolding firstBelow
+first-below f zero j h none here = absurd (not-suc-le-zero h)
+first-below f (suc n) j h none here = go (decLe n j) (λ l. first-below f n j l none here)
+  where
+    go : Dec (n ≤ j) → (j < n → firstBelow f n ≡ j) → firstBelow f (suc n) ≡ j
+    go (yes l) rec =
+        let same : n ≡ j = omega arith in
+        simp (below-none f n (λ k l. none k (omega arith)), le-ltb n n (omega arith), ap f same ∙ here) same
+    go (no l) rec = simp (rec (omega arith), lt-ltb j n (omega arith))

@@ -7,8 +7,8 @@ use native.Mathlib.Decide.{decLe}
 use native.Mathlib.Nat.{le-of-suc-le-suc, not-suc-le-zero}
 use native.Mathlib.Omega.{arith}
 use lib.Dec.{ltb, leb, eqb, leb·suc-suc}
-use lib.ListN.{length, take, getD, set}
-use lib.Seq.{take-suc}
+use lib.ListN.{length, take, getD, set, length-set}
+use lib.Seq.{take-suc, getD-set-same}
 use borrow.Author.Tests.{lt-ltb, le-ltb, le-leb, lt-leb, eqb-false, ne-eqb}
 use Rattle.lists.specs.Tests.{anyOf, allOf, firstPlace}
 
@@ -89,6 +89,18 @@ fold-and b (x ∷ xs) e = go (fold-and (b && x) xs e)
 pub and-at : (tests : List Bool) → foldl _&&_ true tests ≡ true → (k : ℕ) → getD tests k true ≡ true
 and-at tests e = fold-and true tests e .1
 
+-- two tests asked together in one walk, the second only where `b` asks for it, are the two asked one after the other
+regroup : (a b c d e : Bool) → (a || (b && c)) || (d || (b && e)) ≡ (a || d) || (b && (c || e))
+regroup true b c d e = refl
+regroup false false c d e = refl
+regroup false true c true e = or-true c
+regroup false true c false e = refl
+
+pub any-both : {A : Type 0} (f g : A → Bool) (b : Bool) (xs : List A) → anyOf (λ x. f x || (b && g x)) xs ≡ anyOf f xs || (b && anyOf g xs)
+unfolding anyOf
+any-both f g b [] = sym (and-false b)
+any-both f g b (x ∷ xs) = ap (λ (rest : Bool). (f x || (b && g x)) || rest) (any-both f g b xs) ∙ regroup (f x) b (g x) (anyOf f xs) (anyOf g xs)
+
 module _ {A : Type 0} where
   pub any-append : (f : A → Bool) (xs ys : List A) → anyOf f (xs ++ ys) ≡ anyOf f xs || anyOf f ys
   unfolding anyOf
@@ -138,12 +150,23 @@ module _ {A : Type 0} where
       go true e = absurd (true≢false (sym (any-at f xs i d h e) ∙ none))
       go false e = refl
 
+  -- where each fails, none passes
+  pub not-any : (f : A → Bool) (xs : List A) (d : A) → ((i : ℕ) → i < length xs → f (getD xs i d) ≡ false) → anyOf f xs ≡ false
+  unfolding anyOf
+  not-any f [] d h = refl
+  not-any f (x ∷ xs) d h = simp (h 0 (omega arith), not-any f xs d (λ i lt. h (suc i) (omega arith)))
+
   -- one element changed for another that tests the same
   pub any-set : (f : A → Bool) (xs : List A) (i : ℕ) (a d : A) → f a ≡ f (getD xs i d) → anyOf f (set xs i a) ≡ anyOf f xs
   unfolding anyOf
   any-set f [] i a d e = refl
   any-set f (x ∷ xs) zero a d e = ap (λ (b : Bool). b || anyOf f xs) e
   any-set f (x ∷ xs) (suc i) a d e = ap (λ (b : Bool). f x || b) (any-set f xs i a d e)
+
+  -- and for another that passes where `b` holds
+  pub any-set-or : (f : A → Bool) (xs : List A) (i : ℕ) (a d : A) (b : Bool) → i < length xs → f a ≡ b || f (getD xs i d) → anyOf f (set xs i a) ≡ b || anyOf f xs
+  any-set-or f xs i a d true h e = any-at f (set xs i a) i d (rw length-set h) (ap f (getD-set-same xs i a d h) ∙ e)
+  any-set-or f xs i a d false h e = any-set f xs i a d e
 
   -- one element that fails is enough
   pub all-not-at : (f : A → Bool) (xs : List A) (i : ℕ) (d : A) → i < length xs → f (getD xs i d) ≡ false → allOf f xs ≡ false
@@ -189,3 +212,14 @@ module _ {A : Type 0} where
           → f (getD (x ∷ xs) (cond b 0 (suc (firstPlace f xs))) d) ≡ true
       go true e k rec = e
       go false e k rec = rec (le-of-suc-le-suc k)
+
+  -- and nothing before it does
+  pub before-first : (f : A → Bool) (xs : List A) (d : A) (k : ℕ) → k < firstPlace f xs → f (getD xs k d) ≡ false
+  unfolding firstPlace
+  before-first f [] d k h = absurd (not-suc-le-zero h)
+  before-first f (x ∷ xs) d k h = go (f x) refl k h (before-first f xs d)
+    where
+      go : (b : Bool) → f x ≡ b → (k : ℕ) → k < cond b 0 (suc (firstPlace f xs)) → ((k : ℕ) → k < firstPlace f xs → f (getD xs k d) ≡ false) → f (getD (x ∷ xs) k d) ≡ false
+      go true e k l rec = absurd (not-suc-le-zero l)
+      go false e zero l rec = e
+      go false e (suc k) l rec = rec k (le-of-suc-le-suc l)

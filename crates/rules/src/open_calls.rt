@@ -7,7 +7,7 @@ use crate::seat_hand::is_natural;
 use options::Options;
 
 // A natural against an ace or ten-value.
-pub(crate) fn even_open(up: u8, h: SeatHand) -> bool
+pub fn even_open(up: u8, h: SeatHand) -> bool
     ensures { λ r. ⌜ r ≡ evenOpen up (playedOf h) ⌝ }
 {
     if !is_natural(h) {
@@ -20,7 +20,7 @@ pub(crate) fn even_open(up: u8, h: SeatHand) -> bool
 }
 
 // Option on, exactly five cards, total at most 21, up card no ace.
-pub(crate) fn five_open(o: Options, up: u8, h: SeatHand) -> bool
+pub fn five_open(o: Options, up: u8, h: SeatHand) -> bool
     ensures { λ r. ⌜ r ≡ fiveOpen o up (playedOf h) ⌝ }
 {
     let hand = h.hand;

@@ -6,7 +6,6 @@ use native.Mathlib.Omega.{arith}
 use lib.ListN.{length}
 use Rattle.lists.specs.Sum.{sumOf}
 use Rattle.lists.proofs.Sums.{sum-at-most, sum-plus, sum-has}
-use Rattle.cards.specs.Card.{isAce}
 use Rattle.payment.proofs.Bounds.{seat-prizes}
 use Rattle.table.specs.declared.Table.{Table}
 use Rattle.table.specs.Seat.{missingSeat, stake, hands, prizes, seatCover}
@@ -18,7 +17,7 @@ use Rattle.table.proofs.Facts.{sound-options, few-hands}
 module _ (t : Table) (full : length (t .seats) ≡ 9) (sound : Sound t) where
   -- no seat has more hands than the option gives, so each seat's prizes are far below its cover
   few : (i : ℕ) → i < 9 → length (hands (seatAt t i)) ≤ 4
-  few i h = few-hands (t .options) (isDealt t) (isAce (up t)) i (seatAt t i) (sound-options t sound .hands-most) (sound .seats i h)
+  few i h = few-hands (t .options) (isDealt t) (up t) i (seatAt t i) (sound-options t sound .hands-most) (sound .seats i h)
 
   room : sumOf (λ s. prizes (t .options) s + 8 * stake s) (t .seats) ≤ allCover t
   unfolding prizes

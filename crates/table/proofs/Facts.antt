@@ -22,6 +22,7 @@ use Rattle.options.specs.Ranges.{inRange}
 use Rattle.options.specs.Aids.Facts.{InRange}
 use Rattle.options.proofs.Facts.{in-range-facts}
 use Rattle.rules.specs.declared.seat_hand.SeatHand.{SeatHand}
+use Rattle.rules.specs.SeatHand.{playedOf}
 use Rattle.rules.proofs.seat_hand.Places.{many-hands}
 use Rattle.table.specs.declared.Seat.{Seat}
 use Rattle.table.specs.declared.Table.{Table}
@@ -31,27 +32,27 @@ use Rattle.table.specs.Table.{seatAt, isDealt, up, someStaked, tableOrde
 use Rattle.table.specs.Money.{mostMoney, allMoney, allPrizes, allCover}
 use Rattle.table.specs.Faces.{outCards}
 use Rattle.options.specs.Permitted.{insurancePermitted}
-use Rattle.table.specs.Broken.{broken, sound, soundShoe, soundFaces, soundBank, soundMoney, seatSound, soundSeat, soundNumber, soundStake, soundInsurance, soundHands, soundPrizes, soundHand}
+use Rattle.table.specs.Broken.{broken, sound, soundShoe, soundFaces, soundBank, soundMoney, seatSound, soundSeat, soundNumber, soundStake, soundInsurance, soundHands, soundPrizes, soundHand, soundOrigin, soundEnding}
 use Rattle.table.specs.Aids.Sound.{Sound, SoundSeat, SoundHand, Insured, Playing, HoldsNothing}
 
 -- A hand.
-hand-facts : (h : SeatHand) → soundHand h ≡ true → SoundHand h
+hand-facts : (o : Options) (up many : ℕ) (h : SeatHand) → soundHand o up many h ≡ true → SoundHand o up many h
 unfolding soundHand
-hand-facts h e =
+hand-facts o up many h e =
     let n = h .hand .count in
-    let tests = leb 2 n ∷ leb n 20 ∷ couldBePlayed (cardsOf (h .hand)) ∷ leb (h .origin) 2 ∷ leb (h .ended) 5 ∷ [] in
+    let tests = leb 2 n ∷ leb n 20 ∷ couldBePlayed (cardsOf (h .hand)) ∷ soundOrigin many (playedOf h) ∷ soundEnding o up many (playedOf h) ∷ [] in
     let test = and-at tests e in
     record {
       two-cards = leb-true _ _ (test 0);
       twenty-cards = leb-true _ _ (test 1);
       played = test 2;
-      origin = leb-true _ _ (test 3);
-      ended = leb-true _ _ (test 4);
+      origin = test 3;
+      ended = test 4;
     }
 
-facts-hand : (h : SeatHand) → SoundHand h → soundHand h ≡ true
+facts-hand : (o : Options) (up many : ℕ) (h : SeatHand) → SoundHand o up many h → soundHand o up many h ≡ true
 unfolding soundHand
-facts-hand h f = simp (le-leb _ _ (f .two-cards), le-leb _ _ (f .twenty-cards), f .played, le-leb _ _ (f .origin), le-leb _ _ (f .ended))
+facts-hand o up many h f = simp (le-leb _ _ (f .two-cards), le-leb _ _ (f .twenty-cards), f .played, f .origin, f .ended)
 
 -- A seat beyond the option.
 number-facts : (o : Options) (i : ℕ) (s : Seat) → soundNumber o i s ≡ true → o .seats ≤ i → HoldsNothing s
@@ -74,86 +75,88 @@ unfolding soundNumber
 facts-number o i s f = or-unless (ltb i (o .seats)) _ (λ beyond. nothing-test s (f (ltb-false _ _ beyond)))
 
 -- An insurance.
-insurance-facts : (o : Options) (dealt ace : Bool) (s : Seat) → soundInsurance o dealt ace s ≡ true → 0 < insurance s → Insured o dealt ace s
+insurance-facts : (o : Options) (inRound : Bool) (up : ℕ) (s : Seat) → soundInsurance o inRound up s ≡ true → 0 < insurance s → Insured o inRound up s
 unfolding soundInsurance
-insurance-facts o dealt ace s e some =
-    let tests = dealt ∷ ace ∷ isStaked s ∷ insurancePermitted o (stake s) (insurance s) ∷ [] in
+insurance-facts o inRound up s e some =
+    let tests = inRound ∷ isAce up ∷ isStaked s ∷ insurancePermitted o (stake s) (insurance s) ∷ [] in
     let test = and-at tests (test-some (insurance s) _ e some) in
     record { in-round = test 0; ace-up = test 1; staked = ltb-true _ _ (test 2); permitted = test 3 }
 
-insured-test : (o : Options) (dealt ace : Bool) (s : Seat) → Insured o dealt ace s → dealt && ace && isStaked s && insurancePermitted o (stake s) (insurance s) ≡ true
-insured-test o dealt ace s f = simp (f .in-round, f .ace-up, lt-ltb _ _ (f .staked), f .permitted)
+insured-test : (o : Options) (inRound : Bool) (up : ℕ) (s : Seat) → Insured o inRound up s → inRound && isAce up && isStaked s && insurancePermitted o (stake s) (insurance s) ≡ true
+insured-test o inRound up s f = simp (f .in-round, f .ace-up, lt-ltb _ _ (f .staked), f .permitted)
 
-facts-insurance : (o : Options) (dealt ace : Bool) (s : Seat) → (0 < insurance s → Insured o dealt ace s) → soundInsurance o dealt ace s ≡ true
+facts-insurance : (o : Options) (inRound : Bool) (up : ℕ) (s : Seat) → (0 < insurance s → Insured o inRound up s) → soundInsurance o inRound up s ≡ true
 unfolding soundInsurance
-facts-insurance o dealt ace s f = some-test (insurance s) _ (λ some. insured-test o dealt ace s (f some))
+facts-insurance o inRound up s f = some-test (insurance s) _ (λ some. insured-test o inRound up s (f some))
 
 -- The hands of a seat.
-waiting-facts : (o : Options) (dealt : Bool) (s : Seat) → soundHands o dealt s ≡ true → s .hands .many ≡ 0 → dealt ≡ true → stake s ≡ 0
+waiting-facts : (o : Options) (inRound : Bool) (up : ℕ) (s : Seat) → soundHands o inRound up s ≡ true → s .hands .many ≡ 0 → inRound ≡ true → stake s ≡ 0
 unfolding soundHands
-waiting-facts o dealt s e none round =
+waiting-facts o inRound up s e none round =
     let idle : not (ltb 0 (stake s)) ≡ true = simp (none, round, or-false) at e in
     omega (arith, ltb-false 0 (stake s) (not-true _ idle))
 
-playing-facts : (o : Options) (dealt : Bool) (s : Seat) → soundHands o dealt s ≡ true → 0 < s .hands .many → Playing o dealt s
+playing-facts : (o : Options) (inRound : Bool) (up : ℕ) (s : Seat) → soundHands o inRound up s ≡ true → 0 < s .hands .many → Playing o inRound up s
 unfolding soundHands
-playing-facts o dealt s e some =
+playing-facts o inRound up s e some =
     let n = s .hands .many in
-    let tests = ltb 0 n ∷ leb n (o .hands) ∷ dealt ∷ isStaked s ∷ allOf soundHand (take n (s .hands .places)) ∷ [] in
+    let tests = ltb 0 n ∷ leb n (o .hands) ∷ inRound ∷ isStaked s ∷ allOf (soundHand o up n) (take n (s .hands .places)) ∷ [] in
     let test = and-at tests (simp (ne-eqb n 0 (λ none. omega arith)) at e) in
     record {
       in-round = test 2;
       staked = ltb-true _ _ (test 3);
       within = leb-true _ _ (test 1);
-      each = λ p h l. hand-facts _ (rw getD-take at (all-at soundHand (take n (s .hands .places)) p missingPlace (test 4) (omega (arith, length-take n (s .hands .places)))));
+      each = λ p h l. hand-facts o up n _ (rw getD-take at (all-at (soundHand o up n) (take n (s .hands .places)) p missingPlace (test 4) (omega (arith, length-take n (s .hands .places)))));
     }
 
-each-test : (s : Seat) → ((p : ℕ) → p < s .hands .many → p < length (s .hands .places) → SoundHand (getD (s .hands .places) p missingPlace)) → allOf soundHand (take (s .hands .many) (s .hands .places)) ≡ true
-each-test s f =
-    at-all soundHand (take (s .hands .many) (s .hands .places)) missingPlace (λ p h.
+each-test : (o : Options) (up : ℕ) (s : Seat)
+    → ((p : ℕ) → p < s .hands .many → p < length (s .hands .places) → SoundHand o up (s .hands .many) (getD (s .hands .places) p missingPlace))
+    → allOf (soundHand o up (s .hands .many)) (take (s .hands .many) (s .hands .places)) ≡ true
+each-test o up s f =
+    at-all (soundHand o up (s .hands .many)) (take (s .hands .many) (s .hands .places)) missingPlace (λ p h.
     let used : p < s .hands .many = omega (arith, length-take (s .hands .many) (s .hands .places)) in
-    rw getD-take (facts-hand _ (f p used (omega (arith, length-take (s .hands .many) (s .hands .places))))))
+    rw getD-take (facts-hand o up (s .hands .many) _ (f p used (omega (arith, length-take (s .hands .many) (s .hands .places))))))
 
-facts-hands : (o : Options) (dealt : Bool) (s : Seat)
-    → (s .hands .many ≡ 0 → dealt ≡ true → stake s ≡ 0)
-    → (0 < s .hands .many → Playing o dealt s)
-    → soundHands o dealt s ≡ true
+facts-hands : (o : Options) (inRound : Bool) (up : ℕ) (s : Seat)
+    → (s .hands .many ≡ 0 → inRound ≡ true → stake s ≡ 0)
+    → (0 < s .hands .many → Playing o inRound up s)
+    → soundHands o inRound up s ≡ true
 unfolding soundHands
-facts-hands o dealt s waits plays = go (decLe (s .hands .many) 0)
+facts-hands o inRound up s waits plays = go (decLe (s .hands .many) 0)
   where
-    idle : (b : Bool) → dealt ≡ b → s .hands .many ≡ 0 → dealt && isStaked s ≡ false
+    idle : (b : Bool) → inRound ≡ b → s .hands .many ≡ 0 → inRound && isStaked s ≡ false
     idle true round none = rw round (le-ltb 0 (stake s) (omega (arith, waits none round)))
     idle false round none = rw round
 
-    go : Dec (s .hands .many ≤ 0) → soundHands o dealt s ≡ true
-    go (yes h) = let none : s .hands .many ≡ 0 = omega arith in simp (none, idle dealt refl none)
+    go : Dec (s .hands .many ≤ 0) → soundHands o inRound up s ≡ true
+    go (yes h) = let none : s .hands .many ≡ 0 = omega arith in simp (none, idle inRound refl none)
     go (no h) =
         let f = plays (omega arith) in
-        simp (f .in-round, lt-ltb _ _ (f .staked), le-leb _ _ (f .within), lt-ltb 0 (s .hands .many) (omega arith), each-test s (f .each), or-true)
+        simp (f .in-round, lt-ltb _ _ (f .staked), le-leb _ _ (f .within), lt-ltb 0 (s .hands .many) (omega arith), each-test o up s (f .each), or-true)
 
 -- A seat.
-seat-facts : (o : Options) (dealt ace : Bool) (i : ℕ) (s : Seat) → soundSeat o dealt ace i s ≡ true → SoundSeat o dealt ace i s
+seat-facts : (o : Options) (inRound : Bool) (up i : ℕ) (s : Seat) → soundSeat o inRound up i s ≡ true → SoundSeat o inRound up i s
 unfolding soundSeat soundStake soundPrizes
-seat-facts o dealt ace i s e =
-    let tests = soundNumber o i s ∷ soundStake o s ∷ soundInsurance o dealt ace s ∷ soundHands o dealt s ∷ soundPrizes o s ∷ [] in
+seat-facts o inRound up i s e =
+    let tests = soundNumber o i s ∷ soundStake o s ∷ soundInsurance o inRound up s ∷ soundHands o inRound up s ∷ soundPrizes o s ∷ [] in
     let test = and-at tests e in
     record {
       beyond = number-facts o i s (test 0);
       stake-fits = test-some (stake s) _ (test 1);
-      insured = insurance-facts o dealt ace s (test 2);
-      waiting = waiting-facts o dealt s (test 3);
-      playing = playing-facts o dealt s (test 3);
+      insured = insurance-facts o inRound up s (test 2);
+      waiting = waiting-facts o inRound up s (test 3);
+      playing = playing-facts o inRound up s (test 3);
       prizes-back = leb-true _ _ (test 4);
     }
 
-facts-seat : (o : Options) (dealt ace : Bool) (i : ℕ) (s : Seat) → SoundSeat o dealt ace i s → soundSeat o dealt ace i s ≡ true
+facts-seat : (o : Options) (inRound : Bool) (up i : ℕ) (s : Seat) → SoundSeat o inRound up i s → soundSeat o inRound up i s ≡ true
 unfolding soundSeat soundStake soundPrizes
-facts-seat o dealt ace i s f =
+facts-seat o inRound up i s f =
     simp (
       facts-number o i s (f .beyond),
       some-test (stake s) _ (f .stake-fits),
-      facts-insurance o dealt ace s (f .insured),
-      facts-hands o dealt s (f .waiting) (f .playing),
+      facts-insurance o inRound up s (f .insured),
+      facts-hands o inRound up s (f .waiting) (f .playing),
       le-leb _ _ (f .prizes-back),
     )
 
@@ -190,7 +193,7 @@ sound-facts t e =
       discarded = leb-true _ _ (shoe 2);
       faces = λ b h. eqb-true _ _ (all-below _ 256 b (faces 0) h);
       number = eqb-true _ _ (faces 1);
-      seats = λ i h. seat-facts (t .options) (isDealt t) (isAce (up t)) i (seatAt t i) (all-below (seatSound t) 9 i (test 3) h);
+      seats = λ i h. seat-facts (t .options) (isDealt t) (up t) i (seatAt t i) (all-below (seatSound t) 9 i (test 3) h);
       bank = bank-facts t (test 4) .0;
       round = bank-facts t (test 4) .1;
       money = leb-true _ _ (money 0);
@@ -207,7 +210,7 @@ facts-sound t twenty f =
       le-leb _ _ (f .discarded),
       below-all (λ b. eqb (countOf b (outCards t)) (countOf b (tableDrawn t))) 256 (λ b h. eq-eqb _ _ (f .faces b h)),
       eq-eqb _ _ (f .number),
-      below-all (seatSound t) 9 (λ i h. facts-seat (t .options) (isDealt t) (isAce (up t)) i (seatAt t i) (f .seats i h)),
+      below-all (seatSound t) 9 (λ i h. facts-seat (t .options) (isDealt t) (up t) i (seatAt t i) (f .seats i h)),
       facts-bank t twenty (f .bank) (f .round),
       le-leb _ _ (f .money),
       where-test (isDealt t) _ (λ round. le-leb _ _ (f .cover round)),
@@ -250,15 +253,15 @@ dealt-drawn t f round =
 pub hands-many : (s : Seat) → length (s .hands .places) ≡ 4 → s .hands .many ≤ 4 → length (hands s) ≡ s .hands .many
 hands-many s four few = omega (arith, many-hands (s .hands) four)
 
-pub most-many : (o : Options) (dealt ace : Bool) (i : ℕ) (s : Seat) → o .hands ≤ 4 → SoundSeat o dealt ace i s → s .hands .many ≤ 4
-most-many o dealt ace i s most f = go (decLe (s .hands .many) 0)
+pub most-many : (o : Options) (inRound : Bool) (up i : ℕ) (s : Seat) → o .hands ≤ 4 → SoundSeat o inRound up i s → s .hands .many ≤ 4
+most-many o inRound up i s most f = go (decLe (s .hands .many) 0)
   where
     go : Dec (s .hands .many ≤ 0) → s .hands .many ≤ 4
     go (yes h) = omega arith
     go (no h) = omega (arith, f .playing (omega arith) .within)
 
-pub few-hands : (o : Options) (dealt ace : Bool) (i : ℕ) (s : Seat) → o .hands ≤ 4 → SoundSeat o dealt ace i s → length (hands s) ≤ 4
-few-hands o dealt ace i s most f = simp (length-map, length-take) (omega (arith, most-many o dealt ace i s most f))
+pub few-hands : (o : Options) (inRound : Bool) (up i : ℕ) (s : Seat) → o .hands ≤ 4 → SoundSeat o inRound up i s → length (hands s) ≤ 4
+few-hands o inRound up i s most f = simp (length-map, length-take) (omega (arith, most-many o inRound up i s most f))
 
 -- a seat without hands: what it laid is its stake, and it has no prize
 pub no-hands : (s : Seat) → s .hands .many ≡ 0 → hands s ≡ []

@@ -12,7 +12,6 @@ use Rattle.lists.specs.Flat.{flat}
 use Rattle.lists.proofs.Sums.{sum-append, sum-map, sum-none, sum-ones}
 use Rattle.lists.proofs.Places.{getD-any}
 use Rattle.lists.proofs.Stores.{sets-taken}
-use Rattle.cards.specs.Card.{isAce}
 use Rattle.cards.specs.Hand.{emptyHand}
 use Rattle.options.specs.declared.Options.{Options}
 use Rattle.rules.specs.declared.seat_hand.SeatHand.{SeatHand}
@@ -115,7 +114,7 @@ module _ (t : Table) (tray : ℕ) (purse-of : Seat → ℕ) (shoe : Shoe) (k : �
   drawn-cards : (w : ℕ → ℕ) → sumOf w (tableDrawn after) ≡ sumOf w (tableDrawn t) + sumOf w (take k (tableShoe t))
   drawn-cards w = rw (end .more-drawn, end .same-order, take-add, sum-append)
 
-  end-seat : (i : ℕ) → SoundSeat (t .options) (isDealt t) (isAce (up t)) i (seatAt t i) → SoundSeat (t .options) false (isAce (up after)) i (cleared purse-of (seatAt t i))
+  end-seat : (i : ℕ) → SoundSeat (t .options) (isDealt t) (up t) i (seatAt t i) → SoundSeat (t .options) false (up after) i (cleared purse-of (seatAt t i))
   end-seat i s =
       record {
         beyond = λ h. record { no-purse = end .nothing-stays (seatAt t i) (s .beyond h); no-stake = refl; no-insurance = refl; no-hands = refl };

@@ -10,7 +10,6 @@ use Rattle.lists.specs.Sum.{sumOf, isIt}
 use Rattle.lists.proofs.Sums.{sum-append, sum-flat, sum-set, sum-ones}
 use Rattle.lists.proofs.Tests.{any-set}
 use Rattle.lists.proofs.Places.{holds-set}
-use Rattle.cards.specs.Card.{isAce}
 use Rattle.options.proofs.Facts.{in-range-facts}
 use Rattle.table.specs.declared.Seat.{Seat}
 use Rattle.table.specs.declared.Shoe.{Shoe}
@@ -35,7 +34,7 @@ changed t j tray s shoe = makeTable (t .options) tray (set (t .seats) j s) (t .b
 pub record SeatChange (t : Table) (j tray : ℕ) (s : Seat) (shoe : Shoe) (k came went : ℕ) : Type 0 where
   pub within : j < t .options .seats
   pub shaped-seat : ShapedSeat s
-  pub sound-seat : SoundSeat (t .options) (isDealt t) (isAce (up t)) j s
+  pub sound-seat : SoundSeat (t .options) (isDealt t) (up t) j s
   pub same-stake : isDealt t ≡ true → stake s ≡ stake (seatAt t j)
   pub paid : tray + laid s + purse s + went ≡ t .tray + laid (seatAt t j) + purse (seatAt t j) + came
   pub in-limit : allMoney t + came ≤ mostMoney + went
@@ -89,7 +88,7 @@ module _ (t : Table) (j tray : ℕ) (s : Seat) (shoe : Shoe) (k came went : ℕ)
     discarded = omega arith;
     faces = λ b h. omega (arith, out-cards (isIt b), drawn-cards (isIt b), sound .faces b h);
     number = omega (arith, out-cards (λ x. 1), all-drawn, sum-ones (outCards (changed t j tray s shoe)), sum-ones (outCards t), sum-ones (take k (tableShoe t)));
-    seats = λ i h. holds-set (SoundSeat (t .options) (isDealt t) (isAce (up t))) (t .seats) j i s missingSeat here (ch .sound-seat) (sound .seats i h);
+    seats = λ i h. holds-set (SoundSeat (t .options) (isDealt t) (up t)) (t .seats) j i s missingSeat here (ch .sound-seat) (sound .seats i h);
     bank = sound .bank;
     round = λ dealt. any-set isStaked (t .seats) j s missingSeat (ap (ltb 0) (ch .same-stake dealt)) ∙ sound .round dealt;
     money = omega (arith, change-money);

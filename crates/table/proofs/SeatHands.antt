@@ -1,7 +1,10 @@
 -- A seat's hands, and the seat with another hand in a place or with two hands for one: its views and sums.
 use mathlib.Core.Path.{_≡_, _∙_, ap}
+use mathlib.Core.Bool.{false}
 use mathlib.Core.List.{map}
-use Prim.Native.Nat.{ℕ, _+_, _≤_, _<_}
+use Prim.Native.Nat.{ℕ, zero, suc, _+_, _≤_, _<_}
+use native.Mathlib.Decide.{decLe}
+use lib.Dec.{eqb}
 use native.Mathlib.Numerals.{add-one}
 use native.Mathlib.Omega.{arith}
 use lib.ListN.{length, take, getD, set, length-set}
@@ -11,6 +14,7 @@ use Rattle.lists.specs.Sum.{sumOf}
 use Rattle.lists.proofs.Sums.{sum-set, sum-flat}
 use Rattle.lists.proofs.Places.{map-set, holds-set}
 use Rattle.lists.proofs.Inserts.{two-for, take-two-for, length-two-for, sum-two-for, holds-two-for, map-two-for}
+use Rattle.options.specs.declared.Options.{Options}
 use Rattle.rules.specs.declared.seat_hand.SeatHand.{SeatHand}
 use Rattle.rules.specs.SeatHand.{Played, playedOf}
 use Rattle.rules.proofs.seat_hand.Places.{many-hands, hand-at}
@@ -19,6 +23,7 @@ use Rattle.table.specs.declared.Money.{Money}
 use Rattle.table.specs.declared.Seat.{Seat}
 use Rattle.table.specs.Seat.{makeSeat, missingPlace, stake, insurance, hands, seatCards, laid}
 use Rattle.table.specs.Shape.{ShapedSeat}
+use Rattle.table.specs.Broken.{soundOrigin, soundSurrender, soundEnding}
 use Rattle.table.specs.Aids.Sound.{SoundHand}
 
 -- the sums of a seat over its hands, once it has one
@@ -35,6 +40,14 @@ with-hand s m p h = makeSeat m (record { places = set (s .hands .places) p h; ma
 
 abbrev pub with-two : Seat → Money → ℕ → SeatHand → SeatHand → Seat
 with-two s m p a b = makeSeat m (record { places = take 4 (two-for (s .hands .places) p a b); many = s .hands .many + 1 })
+
+-- with two hands or more the codes do not depend on how many there are
+one-more : (o : Options) (up many : ℕ) (h : SeatHand) → 2 ≤ many → SoundHand o up many h → SoundHand o up (many + 1) h
+unfolding soundOrigin soundEnding soundSurrender
+one-more o up many h two f =
+    let before : eqb many 1 ≡ false = ne-eqb many 1 (λ e. omega arith) in
+    let after : eqb (many + 1) 1 ≡ false = ne-eqb (many + 1) 1 (λ e. omega arith) in
+    record { two-cards = f .two-cards; twenty-cards = f .twenty-cards; played = f .played; origin = cc; ended = cc }
 
 module _ (s : Seat) (p : ℕ) (shaped : ShapedSeat s) (few : s .hands .many ≤ 4) (here : p < s .hands .many) where
   pub how-many : length (hands s) ≡ s .hands .many
@@ -54,10 +67,12 @@ module _ (s : Seat) (p : ℕ) (shaped : ShapedSeat s) (few : s .hands .many ≤ 
           twenty-cards = λ q l. holds-set (λ n x. length (x .hand .cards) ≡ 20) (s .hands .places) p q h missingPlace (omega (arith, shaped .four-places)) full (shaped .twenty-cards q l);
         }
 
-    pub each-with : ((q : ℕ) → q < s .hands .many → q < length (s .hands .places) → SoundHand (getD (s .hands .places) q missingPlace)) → SoundHand h
-        → (q : ℕ) → q < s .hands .many → q < length (set (s .hands .places) p h) → SoundHand (getD (set (s .hands .places) p h) q missingPlace)
-    each-with each new q l _ =
-        holds-set (λ n x. SoundHand x) (s .hands .places) p q h missingPlace (omega (arith, shaped .four-places)) new (each q l (omega (arith, shaped .four-places)))
+    pub each-with : (o : Options) (up : ℕ)
+        → ((q : ℕ) → q < s .hands .many → q < length (s .hands .places) → SoundHand o up (s .hands .many) (getD (s .hands .places) q missingPlace))
+        → SoundHand o up (s .hands .many) h
+        → (q : ℕ) → q < s .hands .many → q < length (set (s .hands .places) p h) → SoundHand o up (s .hands .many) (getD (set (s .hands .places) p h) q missingPlace)
+    each-with o up each new q l _ =
+        holds-set (λ n x. SoundHand o up (s .hands .many) x) (s .hands .places) p q h missingPlace (omega (arith, shaped .four-places)) new (each q l (omega (arith, shaped .four-places)))
 
     pub sum-with : (f : Played → ℕ) → sumOf f (hands (with-hand s m p h)) + f (playedOf (getD (s .hands .places) p missingPlace)) ≡ sumOf f (hands s) + f (playedOf h)
     sum-with f = rw (hands-with, ← hand-is) (sum-set f (hands s) p (playedOf h) (playedOf missingPlace) (omega (arith, how-many)))
@@ -78,11 +93,24 @@ module _ (s : Seat) (p : ℕ) (shaped : ShapedSeat s) (few : s .hands .many ≤ 
               (holds-two-for (λ x. length (x .hand .cards) ≡ 20) (s .hands .places) p 4 a b missingPlace (omega (arith, shaped .four-places)) (omega arith) full-a full-b (shaped .twenty-cards) q (omega arith));
         }
 
-    pub each-two : s .hands .many < 4 → ((q : ℕ) → q < s .hands .many → q < length (s .hands .places) → SoundHand (getD (s .hands .places) q missingPlace)) → SoundHand a → SoundHand b
-        → (q : ℕ) → q < s .hands .many + 1 → q < length (take 4 (two-for (s .hands .places) p a b)) → SoundHand (getD (take 4 (two-for (s .hands .places) p a b)) q missingPlace)
-    each-two room each new-a new-b q l _ =
-        rw (getD-take 4 (two-for (s .hands .places) p a b) q missingPlace (omega arith))
-        (holds-two-for SoundHand (s .hands .places) p (s .hands .many) a b missingPlace (omega (arith, shaped .four-places)) here new-a new-b (λ k m. each k m (omega (arith, shaped .four-places))) q (omega arith))
+    pub each-two : (o : Options) (up : ℕ) → s .hands .many < 4
+        → ((q : ℕ) → q < s .hands .many → q < length (s .hands .places) → SoundHand o up (s .hands .many) (getD (s .hands .places) q missingPlace))
+        → SoundHand o up (s .hands .many + 1) a → SoundHand o up (s .hands .many + 1) b
+        → (q : ℕ) → q < s .hands .many + 1 → q < length (take 4 (two-for (s .hands .places) p a b))
+        → SoundHand o up (s .hands .many + 1) (getD (take 4 (two-for (s .hands .places) p a b)) q missingPlace)
+    each-two o up room each new-a new-b q l _ = rw (getD-take 4 (two-for (s .hands .places) p a b) q missingPlace (omega arith)) (go (decLe 2 (s .hands .many)) q l)
+      where
+        both : (q : ℕ) → q < 2 → SoundHand o up (s .hands .many + 1) (getD (two-for (s .hands .places) 0 a b) q missingPlace)
+        both zero l = new-a
+        both (suc zero) l = new-b
+        both (suc (suc q)) l = absurd (omega arith)
+
+        -- beside others it finds them unchanged; a seat's only hand has none beside it
+        go : Dec (2 ≤ s .hands .many) → (q : ℕ) → q < s .hands .many + 1 → SoundHand o up (s .hands .many + 1) (getD (two-for (s .hands .places) p a b) q missingPlace)
+        go (yes two) q l =
+            holds-two-for (SoundHand o up (s .hands .many + 1)) (s .hands .places) p (s .hands .many) a b missingPlace (omega (arith, shaped .four-places)) here new-a new-b
+            (λ k m. one-more o up (s .hands .many) _ two (each k m (omega (arith, shaped .four-places)))) q (omega arith)
+        go (no one) q l = let only : p ≡ 0 = omega arith in rw only (both q (omega arith))
 
     pub sum-two : s .hands .many < 4 → (f : Played → ℕ) → sumOf f (hands (with-two s m p a b)) + f (playedOf (getD (s .hands .places) p missingPlace)) ≡ sumOf f (hands s) + f (playedOf a) + f (playedOf b)
     sum-two room f = rw (hands-two room, ← hand-is) (sum-two-for f (hands s) p (playedOf a) (playedOf b) (playedOf missingPlace) (omega (arith, how-many)))

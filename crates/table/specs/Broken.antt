@@ -1,19 +1,22 @@
 -- Document 01, "Who can bring about which number", 1: a broken table. docs/BROKEN.md says it in words. A table is broken unless it is sound, and each part
 -- of sound is one test. Every table value has an answer.
-use mathlib.Core.Bool.{Bool, not, _&&_, _||_}
+use mathlib.Core.Bool.{Bool, cond, not, _&&_, _||_}
 use Prim.Native.Nat.{ℕ, _+_, _*_}
 use lib.Dec.{ltb, leb, eqb}
-use lib.ListN.{length, take}
+use lib.ListN.{length, getD, take}
 use Rattle.lists.specs.Sum.{countOf}
 use Rattle.lists.specs.Tests.{allOf}
 use Rattle.lists.specs.Below.{allBelow}
 use Rattle.cards.specs.Card.{isAce}
 use Rattle.cards.specs.Hand.{cardsOf}
 use Rattle.cards.specs.Length.{couldBePlayed}
+use Rattle.cards.specs.Total.{total}
 use Rattle.options.specs.declared.Options.{Options}
 use Rattle.options.specs.Ranges.{inRange}
 use Rattle.options.specs.Permitted.{stakePermitted, insurancePermitted}
 use Rattle.rules.specs.declared.seat_hand.SeatHand.{SeatHand}
+use Rattle.rules.specs.SeatHand.{Played, playedOf, dealt, split, splitAces, byStand, byDouble, bySurrender, byEven, byFive, hasTwoCards}
+use Rattle.rules.specs.OpenCalls.{evenOpen, fiveOpen}
 use Rattle.table.specs.declared.Seat.{Seat}
 use Rattle.table.specs.declared.Table.{Table}
 use Rattle.table.specs.Seat.{purse, stake, insurance, isStaked, laid, prizes}
@@ -22,9 +25,33 @@ use Rattle.table.specs.Table.{seatAt, isDealt, up, someStaked, tableOrde
 use Rattle.table.specs.Money.{mostMoney, allMoney, allPrizes, allCover}
 use Rattle.table.specs.Faces.{outCards}
 
--- A hand in use: 2 to 20 cards that could have been played, codes in range.
-unfoldable pub soundHand : SeatHand → Bool
-soundHand h = leb 2 (h .hand .count) && leb (h .hand .count) 20 && couldBePlayed (cardsOf (h .hand)) && leb (h .origin) 2 && leb (h .ended) 5
+-- Where a hand comes from fits what lies there: a seat's only hand was dealt, any other comes from a split, of aces where its first card is one.
+unfoldable pub soundOrigin : ℕ → Played → Bool
+soundOrigin many h = eqb (h .origin) (cond (eqb many 1) dealt (cond (isAce (getD (h .cards) 0 0)) splitAces split))
+
+-- A doubled hand has three cards, is not from split aces, and its first two permitted the double (article 17).
+unfoldable pub soundDouble : Options → Played → Bool
+soundDouble o h =
+    let two = total (take 2 (h .cards)) in
+    eqb (length (h .cards)) 3 && not (eqb (h .origin) splitAces) && ltb two 21 && (eqb (o .double) 1 || eqb two 11)
+
+-- A surrendered hand is its seat's only one, of two cards, against no ace (article 18).
+unfoldable pub soundSurrender : ℕ → ℕ → Played → Bool
+soundSurrender up many h = eqb many 1 && hasTwoCards h && not (isAce up)
+
+-- How a hand ended fits what lies there: even and five only where they are open.
+unfoldable pub soundEnding : Options → ℕ → ℕ → Played → Bool
+soundEnding o up many h =
+    cond (eqb (h .ended) byDouble) (soundDouble o h)
+    (cond (eqb (h .ended) bySurrender) (soundSurrender up many h)
+    (cond (eqb (h .ended) byEven) (evenOpen up h)
+    (cond (eqb (h .ended) byFive) (fiveOpen o up h)
+    (leb (h .ended) byStand))))
+
+-- A hand in use, in a seat of `many` hands against the up card `up`: 2 to 20 cards that could have been played, codes that fit them.
+unfoldable pub soundHand : Options → ℕ → ℕ → SeatHand → Bool
+soundHand o up many h =
+    leb 2 (h .hand .count) && leb (h .hand .count) 20 && couldBePlayed (cardsOf (h .hand)) && soundOrigin many (playedOf h) && soundEnding o up many (playedOf h)
 
 -- A seat beyond the option holds nothing.
 unfoldable pub soundNumber : Options → ℕ → Seat → Bool
@@ -34,26 +61,26 @@ soundNumber o i s = ltb i (o .seats) || (eqb (purse s) 0 && eqb (stake s) 0 && e
 unfoldable pub soundStake : Options → Seat → Bool
 soundStake o s = eqb (stake s) 0 || stakePermitted o (stake s)
 
--- Here and below `dealt` says whether a round is dealt, and `ace` whether the up card is one.
-unfoldable pub soundInsurance : Options → Bool → Bool → Seat → Bool
-soundInsurance o dealt ace s = eqb (insurance s) 0 || (dealt && ace && isStaked s && insurancePermitted o (stake s) (insurance s))
+-- Here and below `inRound` says whether a round is dealt, and `up` is the up card.
+unfoldable pub soundInsurance : Options → Bool → ℕ → Seat → Bool
+soundInsurance o inRound up s = eqb (insurance s) 0 || (inRound && isAce up && isStaked s && insurancePermitted o (stake s) (insurance s))
 
 -- A seat has a hand exactly if a round is dealt and it has a stake; it has no more hands than the option gives, each of them sound.
-unfoldable pub soundHands : Options → Bool → Seat → Bool
-soundHands o dealt s =
-    eqb (s .hands .many) 0 && not (dealt && isStaked s)
-    || ltb 0 (s .hands .many) && leb (s .hands .many) (o .hands) && dealt && isStaked s && allOf soundHand (take (s .hands .many) (s .hands .places))
+unfoldable pub soundHands : Options → Bool → ℕ → Seat → Bool
+soundHands o inRound up s =
+    eqb (s .hands .many) 0 && not (inRound && isStaked s)
+    || ltb 0 (s .hands .many) && leb (s .hands .many) (o .hands) && inRound && isStaked s && allOf (soundHand o up (s .hands .many)) (take (s .hands .many) (s .hands .places))
 
 -- A void can take a seat's prizes back: they are within its purse and what it laid.
 unfoldable pub soundPrizes : Options → Seat → Bool
 soundPrizes o s = leb (prizes o s) (purse s + laid s)
 
 -- The seat of number i.
-unfoldable pub soundSeat : Options → Bool → Bool → ℕ → Seat → Bool
-soundSeat o dealt ace i s = soundNumber o i s && soundStake o s && soundInsurance o dealt ace s && soundHands o dealt s && soundPrizes o s
+unfoldable pub soundSeat : Options → Bool → ℕ → ℕ → Seat → Bool
+soundSeat o inRound up i s = soundNumber o i s && soundStake o s && soundInsurance o inRound up s && soundHands o inRound up s && soundPrizes o s
 
 abbrev pub seatSound : Table → ℕ → Bool
-seatSound t i = soundSeat (t .options) (isDealt t) (isAce (up t)) i (seatAt t i)
+seatSound t i = soundSeat (t .options) (isDealt t) (up t) i (seatAt t i)
 
 -- The order is valid, at most all of it is drawn, and there is room for every discard.
 unfoldable pub soundShoe : Table → Bool

@@ -2,6 +2,7 @@
 pub mod Seat
 pub mod Shoe
 pub mod Table
+pub mod Progress
 pub mod Money
 pub mod Faces
 pub mod Broken

@@ -10,11 +10,12 @@ use Rattle.table.specs.declared.Table.{Table}
 use Rattle.table.specs.Seat.{purse, stake, insurance, hands, laid, prizes}
 use Rattle.table.specs.Shoe.{isFresh}
 use Rattle.table.specs.Table.{seatAt, bankCards, isDealt, tableOrder}
+use Rattle.table.specs.Progress.{anyDrew, anyDecided}
 use Rattle.table.specs.Money.{allMoney}
 use Rattle.table.specs.Shape.{Shaped}
 use Rattle.table.specs.Aids.Sound.{Sound}
 use Rattle.history.specs.Entry.{Entry}
-use Rattle.history.specs.Rounds.{isDealtRound, stakeIn, insuranceIn}
+use Rattle.history.specs.Rounds.{isDealtRound, decidedIn, drewIn, stakeIn, insuranceIn}
 use Rattle.history.specs.Cards.{Cards, cardsOfHistory}
 use Rattle.history.specs.Hands.{handsIn}
 use Rattle.history.specs.Money.{cameIn, wentOut, laidIn, prizesIn, purseOf}
@@ -39,6 +40,8 @@ pub record Agrees (opening : List ℕ) (es : List Entry) (t : Table) : Type 0 wh
   pub cards : CardsAgree (cardsOfHistory (t .options) opening es) t
   pub dealt : isDealt t ≡ isDealtRound es
   pub seats : (i : ℕ) → SeatAgrees (t .options) opening es i (seatAt t i)
+  pub drew : anyDrew t ≡ drewIn es
+  pub decided : anyDecided t ≡ decidedIn es
   pub balance : allMoney t + wentOut es ≡ cameIn es
 
 -- What the theorem carries from call to call.

@@ -11,7 +11,6 @@ use lib.Seq.{take-all}
 use Rattle.lists.specs.Sum.{sumOf}
 use Rattle.lists.specs.Below.{allBelow}
 use Rattle.lists.proofs.Below.{all-below, below-passes}
-use Rattle.cards.specs.Card.{isAce}
 use Rattle.options.specs.declared.Options.{Options}
 use Rattle.table.specs.declared.Seat.{Seat}
 use Rattle.table.specs.declared.Table.{Table}
@@ -25,20 +24,19 @@ use Rattle.broken.proofs.surveyed.Statement.{statement}
 use Rattle.broken.proofs.surveyed.Tie as tie
 
 -- the test of a seat, with what is worked out before the loop
-abbrev passes : Options → Bool → Bool → List Seat → ℕ → Bool
-passes o dealt ace seats i = soundSeat o dealt ace i (getD seats i missingSeat)
+abbrev passes : Options → Bool → ℕ → List Seat → ℕ → Bool
+passes o dealt card seats i = soundSeat o dealt card i (getD seats i missingSeat)
 
 abbrev Inv-loop : tie.InvT-loop
-Inv-loop o dealt ace sums₀ seats i₀ sums i =
-    (i ≤ 9) × (allBelow (passes o dealt ace seats) i ≡ true) × (sums ≡ sumsOver o (take i seats)) × SumsFit i sums
+Inv-loop o dealt card sums₀ seats i₀ sums i =
+    (i ≤ 9) × (allBelow (passes o dealt card seats) i ≡ true) × (sums ≡ sumsOver o (take i seats)) × SumsFit i sums
 
 abbrev μ-loop : tie.MeasureT-loop
-μ-loop o dealt ace sums₀ seats i₀ sums i = 9 - i
+μ-loop o dealt card sums₀ seats i₀ sums i = 9 - i
 
 -- it is that of the definition
-same : (t : Table) (u : ℕ) (dealt ace : Bool) → dealt ≡ isDealt t → u ≡ up t → ace ≡ isAce u
-    → allBelow (passes (t .options) dealt ace (t .seats)) 9 ≡ allBelow (seatSound t) 9
-same t u dealt ace d e a = rw (d, a, e) refl
+same : (t : Table) (card : ℕ) (dealt : Bool) → dealt ≡ isDealt t → card ≡ up t → allBelow (passes (t .options) dealt card (t .seats)) 9 ≡ allBelow (seatSound t) 9
+same t card dealt d u = rw (d, u) refl
 
 -- one seat that fails decides
 fails : (test : ℕ → Bool) (i : ℕ) → i ≤ 8 → test i ≡ false → false ≡ allBelow test 9
@@ -53,9 +51,6 @@ is-dealt-requires c κs = search needs
 
 up-requires : tie.Need-up-requires Inv-loop μ-loop
 up-requires c κs = search needs
-
-is-ace-requires : tie.Need-is-ace-requires Inv-loop μ-loop
-is-ace-requires c κs = search needs
 
 loop-holds : tie.Need-loop-holds Inv-loop μ-loop
 unfolding allBelow sumOf
@@ -76,14 +71,14 @@ sound-seat-requires c κs = c .seat-sums .ensures .0
 returns : tie.Need-returns Inv-loop μ-loop
 returns c =
     let at = c .before .before .before .before .before in
-    let start = at .before .before .before .before .before .before in
+    let start = at .before .before .before .before .before in
     let t = start .args .t in
-    let ace = at .before .before in
-    let dealt = at .before .before .before .before in
+    let card = at .before .before .up in
+    let dealt = at .before .before .before .is-dealt in
     record {
       each =
-          fails (passes (t .options) (dealt .is-dealt .result) (ace .is-ace .result) (t .seats)) (at .loop .i) (omega arith) (sym (c .before .sound-seat .ensures) ∙ not-true _ (c .if1 .taken))
-          ∙ same t (at .before .before .before .up .result) (dealt .is-dealt .result) (ace .is-ace .result) (dealt .is-dealt .ensures) (at .before .before .before .up .ensures) (ace .is-ace .ensures);
+          fails (passes (t .options) (dealt .result) (card .result) (t .seats)) (at .loop .i) (omega arith) (sym (c .before .sound-seat .ensures) ∙ not-true _ (c .if1 .taken))
+          ∙ same t (card .result) (dealt .result) (dealt .ensures) (card .ensures);
       sums = λ e. absurd (true≢false (sym e));
     }
 
@@ -99,15 +94,15 @@ loop-less c = search needs
 loop-again : tie.Need-loop-again Inv-loop μ-loop
 loop-again c =
     let at = c .before .before .before .before .before .before in
-    let start = at .before .before .before .before .before .before in
+    let start = at .before .before .before .before .before in
     let t = start .args .t in
-    let ace = at .before .before in
-    let dealt = at .before .before .before .before in
+    let card = at .before .before .up in
+    let dealt = at .before .before .before .is-dealt in
     let i = at .loop .i in
     let full : length (t .seats) ≡ 9 = simp length-map at (start .good .0 .1 .1 .1 .1 .0 .1 .0 .1) in
     let m = c .before .before .before in (
       omega arith,
-      below-passes (passes (t .options) (dealt .is-dealt .result) (ace .is-ace .result) (t .seats)) i (sym (c .before .before .sound-seat .ensures) ∙ not-false _ (c .before .if1 .left)) ∙ at .loop .inv .1,
+      below-passes (passes (t .options) (dealt .result) (card .result) (t .seats)) i (sym (c .before .before .sound-seat .ensures) ∙ not-false _ (c .before .if1 .left)) ∙ at .loop .inv .1,
       c .plus .ensures ∙ next-seat (t .options) (t .seats) i (omega arith) (at .loop .sums) (m .seat-sums .result) (at .loop .inv .2) (m .seat-sums .ensures .0),
       within-more i (at .loop .sums) (m .seat-sums .result) (c .plus .result) (at .loop .inv .3) (m .seat-sums .ensures .1) (c .plus .ensures),
     )
@@ -115,14 +110,14 @@ loop-again c =
 returns-2 : tie.Need-returns-2 Inv-loop μ-loop
 returns-2 c =
     let at = c .before in
-    let start = at .before .before .before .before .before .before in
+    let start = at .before .before .before .before .before in
     let t = start .args .t in
-    let ace = at .before .before in
-    let dealt = at .before .before .before .before in
+    let card = at .before .before .up in
+    let dealt = at .before .before .before .is-dealt in
     let full : length (t .seats) ≡ 9 = simp length-map at (start .good .0 .1 .1 .1 .1 .0 .1 .0 .1) in
     let nine : at .loop .i ≡ 9 = omega arith in
     record {
-      each = sym (rw nine at (at .loop .inv .1)) ∙ same t (at .before .before .before .up .result) (dealt .is-dealt .result) (ace .is-ace .result) (dealt .is-dealt .ensures) (at .before .before .before .up .ensures) (ace .is-ace .ensures);
+      each = sym (rw nine at (at .loop .inv .1)) ∙ same t (card .result) (dealt .result) (dealt .ensures) (card .ensures);
       sums = λ e. at .loop .inv .2 ∙ ap (sumsOver (t .options)) (take-all (at .loop .i) (t .seats) (omega arith));
     }
 
@@ -134,7 +129,6 @@ surveyed-spec =
     μ-loop
     is-dealt-requires
     up-requires
-    is-ace-requires
     loop-holds
     mul-s
     array-copy-out-s

@@ -23,12 +23,12 @@ use Rattle.table.specs.Seat.{hands}
 use Rattle.table.specs.Table.{seatAt, up}
 use Rattle.answer.specs.Conditions.{seatConditions}
 use Rattle.decisions_spec.specs.Turn.{turnConditions}
-use Rattle.decisions_spec.proofs.Turn.{TurnAccepted, turn-accepted, turn-waits}
+use Rattle.decisions_spec.proofs.Turn.{TurnAccepted, turn-accepted}
 use Rattle.decisions.specs.Aids.InTurn.{InTurn}
 
 -- what an accepted one gives, whatever it asks behind the conditions in turn
 pub in-turn : (t : Table) (j : ℕ) → TurnAccepted t j → InTurn t j
-in-turn t j a = record { nine = a .acting .nine; waits = turn-waits t j a }
+in-turn t j a = record { nine = a .acting .nine; waits = a .waits }
 
 module _ (t : Table) (j n : ℕ) (e : n ≡ first (turnConditions t j)) where
   pub turn-refuses : (n ≡ 0 → ⊥) → (rest : List Condition) → n ≡ first (turnConditions t j ++ rest)

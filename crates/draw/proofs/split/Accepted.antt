@@ -2,7 +2,6 @@
 use mathlib.Core.Path.{_≡_}
 use Prim.Native.Nat.{ℕ}
 use native.Mathlib.Omega.{arith}
-use Rattle.cards.specs.Card.{isAce}
 use Rattle.table.specs.declared.Seat.{Seat}
 use Rattle.table.specs.declared.Table.{Table}
 use Rattle.table.specs.Table.{seatAt, isDealt, up}
@@ -18,7 +17,7 @@ splits t j a =
     let most = sound-options t sound .hands-most in
     record {
       turn = turn;
-      pays = record { waits = turn .waits; room = most-many (t .options) (isDealt t) (isAce (up t)) j (seatAt t j) most (sound .seats j (turn .nine)); enough = a .enough };
+      pays = record { waits = turn .waits; room = most-many (t .options) (isDealt t) (up t) j (seatAt t j) most (sound .seats j (turn .nine)); enough = a .enough };
       two-left = omega (arith, a .left, decks-416 t sound);
     }
 

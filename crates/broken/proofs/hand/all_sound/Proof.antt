@@ -17,10 +17,10 @@ use Rattle.broken.proofs.hand.all_sound.Statement.{statement}
 use Rattle.broken.proofs.hand.all_sound.Tie as tie
 
 abbrev Inv-loop : tie.InvT-loop
-Inv-loop s n i₀ i = (i ≤ n) × (allOf soundHand (take i (s .places)) ≡ true)
+Inv-loop o up s n i₀ i = (i ≤ n) × (allOf (soundHand o up (s .many)) (take i (s .places)) ≡ true)
 
 abbrev μ-loop : tie.MeasureT-loop
-μ-loop s n i₀ i = n - i
+μ-loop o up s n i₀ i = n - i
 
 used-requires : tie.Need-used-requires Inv-loop μ-loop
 used-requires c κs = search needs
@@ -40,13 +40,15 @@ sound-hand-requires c κs = search needs
 
 returns : tie.Need-returns Inv-loop μ-loop
 returns c =
-    let s = c .before .before .before .before .before .before .args .t1 in
+    let start = c .before .before .before .before .before .before .args in
+    let s = start .t3 in
+    let test = soundHand (start .o) (start .up) (s .many) in
     let i = c .before .before .before .before .loop .i in
-    let full : length (s .places) ≡ 4 = simp length-map at (c .before .before .before .before .before .before .good .0 .1 .1 .0 .1 .0 .1) in
+    let full : length (s .places) ≡ 4 = simp length-map at (c .before .before .before .before .before .before .good .1 .1 .0 .1 .1 .0 .1 .0 .1) in
     let used = c .before .before .before .before .before .used .ensures in
-    let fails : soundHand (getD (take (s .many) (s .places)) i none) ≡ false
+    let fails : test (getD (take (s .many) (s .places)) i none) ≡ false
     = rw (getD-take (s .many) (s .places) i none (omega arith)) (sym (c .before .sound-hand .ensures) ∙ not-true _ (c .if1 .taken)) in
-    sym (all-not-at soundHand (take (s .many) (s .places)) i none (omega (arith, length-take (s .many) (s .places))) fails)
+    sym (all-not-at test (take (s .many) (s .places)) i none (omega (arith, length-take (s .many) (s .places))) fails)
 
 add-i : tie.Need-add-i Inv-loop μ-loop
 add-i c = search needs
@@ -56,19 +58,22 @@ loop-less c = search needs
 
 loop-again : tie.Need-loop-again Inv-loop μ-loop
 loop-again c =
-    let s = c .before .before .before .before .before .before .args .t1 in
+    let start = c .before .before .before .before .before .before .args in
+    let s = start .t3 in
+    let test = soundHand (start .o) (start .up) (s .many) in
     let i = c .before .before .before .before .loop .i in
-    let full : length (s .places) ≡ 4 = simp length-map at (c .before .before .before .before .before .before .good .0 .1 .1 .0 .1 .0 .1) in
+    let full : length (s .places) ≡ 4 = simp length-map at (c .before .before .before .before .before .before .good .1 .1 .0 .1 .1 .0 .1 .0 .1) in
     let used = c .before .before .before .before .before .used .ensures in
-    let here : soundHand (getD (s .places) i none) ≡ true = sym (c .before .sound-hand .ensures) ∙ not-false _ (c .if1 .left) in
-    (omega arith, rw (add-one, all-take soundHand (s .places) i none (omega arith), c .before .before .before .before .loop .inv .1, here))
+    let here : test (getD (s .places) i none) ≡ true = sym (c .before .sound-hand .ensures) ∙ not-false _ (c .if1 .left) in
+    (omega arith, rw (add-one, all-take test (s .places) i none (omega arith), c .before .before .before .before .loop .inv .1, here))
 
 returns-2 : tie.Need-returns-2 Inv-loop μ-loop
 returns-2 c =
-    let s = c .before .before .before .args .t1 in
-    let full : length (s .places) ≡ 4 = simp length-map at (c .before .before .before .good .0 .1 .1 .0 .1 .0 .1) in
+    let start = c .before .before .before .args in
+    let s = start .t3 in
+    let full : length (s .places) ≡ 4 = simp length-map at (c .before .before .before .good .1 .1 .0 .1 .1 .0 .1 .0 .1) in
     let used = c .before .before .used .ensures in
-    sym (c .before .loop .inv .1) ∙ ap (allOf soundHand) (take-clamped (s .places) (s .many) (c .before .loop .i) (omega arith))
+    sym (c .before .loop .inv .1) ∙ ap (allOf (soundHand (start .o) (start .up) (s .many))) (take-clamped (s .places) (s .many) (c .before .loop .i) (omega arith))
 
 pub all-sound-spec : {M : Type 1} → statement M
 all-sound-spec =

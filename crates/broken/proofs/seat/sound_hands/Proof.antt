@@ -9,11 +9,11 @@ use Rattle.broken.proofs.seat.sound_hands.Tie as tie
 
 returns : tie.Need-returns
 unfolding soundHands
-returns c = simp (c .before .if1 .taken, not-true (c .before .before .before .before .before .args .dealt) (c .if2 .taken))
+returns c = simp (c .before .if1 .taken, not-true (c .before .before .before .before .before .args .in-round) (c .if2 .taken))
 
 returns-2 : tie.Need-returns-2
 unfolding soundHands
-returns-2 c = simp (c .before .before .if1 .taken, not-false (c .before .before .before .before .before .before .args .dealt) (c .before .if2 .left), or-false)
+returns-2 c = simp (c .before .before .if1 .taken, not-false (c .before .before .before .before .before .before .args .in-round) (c .before .if2 .left), or-false)
 
 all-sound-requires : tie.Need-all-sound-requires
 all-sound-requires c κs = search needs

@@ -7,8 +7,8 @@ use Rattle.lists.specs.Tests.{anyOf}
 use Rattle.rules.specs.SeatHand.{Played}
 use Rattle.rules.specs.Drew.{seatDrew}
 use Rattle.table.specs.Table.{seatsHands}
-use Rattle.decisions_spec.specs.Progress.{anyDrew}
-use Rattle.decisions.proofs.progress.Both.{any-both}
+use Rattle.table.specs.Progress.{anyDrew}
+use Rattle.lists.proofs.Tests.{any-both}
 use Rattle.decisions.proofs.progress.any_drew.Statement.{statement}
 use Rattle.decisions.proofs.progress.any_drew.Tie as tie
 

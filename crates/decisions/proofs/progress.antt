@@ -1,2 +1,0 @@
--- One walk over the seats for two questions.
-pub mod Both

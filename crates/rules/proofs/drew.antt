@@ -1,0 +1,2 @@
+-- When a seat has drawn, doubled or split.
+pub mod Laws
