@@ -86,7 +86,7 @@ listed o opening es purse-of seats i none a =
       purse-is = ap pos (view-map purse (cleared purse-of) seats i missingSeat none) ∙ a .purse-is;
     }
 
-module _ (opening : List ℕ) (es : List Entry) (t : Table) (e : Entry) (tray : ℕ) (purse-of : Seat → ℕ) (shoe : Shoe) (k : ℕ) (cards : List ℕ) where
+module _ (opening : List ℕ) (es : List Entry) (t : Table) (e : Entry) (tray : ℕ) (purse-of : Seat → ℕ) (shoe : Shoe) (k : ℕ) where
   pub record EndCall : Type 0 where
     pub ends : Ends e
     pub takes : callTakes (t .options) (stakedBelow es (t .options .seats)) (cardsOfHistory (t .options) opening es) e ≡ k
@@ -98,7 +98,7 @@ module _ (opening : List ℕ) (es : List Entry) (t : Table) (e : Entry) (tray : 
   unfolding cardsAfter bankAfter
   cards-after call c same = simp (call .ends .no-load, call .ends .quiet .no-deal, call .ends .is-end, call .takes, same)
 
-  pub end-call : Good opening es t → RoundEnd t tray purse-of shoe k cards → EndCall → Good opening (e ∷ es) (roundEnded t tray purse-of shoe)
+  pub end-call : Good opening es t → RoundEnd t tray purse-of shoe k → EndCall → Good opening (e ∷ es) (roundEnded t tray purse-of shoe)
   unfolding anyOf seatDrew
   end-call g end call =
       let c = cardsOfHistory (t .options) opening es in
@@ -107,8 +107,8 @@ module _ (opening : List ℕ) (es : List Entry) (t : Table) (e : Entry) (tray : 
       let now : cardsOfHistory (t .options) opening (e ∷ es) ≡ makeCards (c .order) (c .fresh) (c .taken + k) [] = cards-after call c refl in
       let undecided = nobody-decided (roundEnded t tray purse-of shoe) (λ i h. ap seatDecided (view-map hands (cleared purse-of) (t .seats) i missingSeat refl)) in
       record {
-        shaped = end-shaped t tray purse-of shoe k cards (g .shaped) (g .sound) end;
-        sound = end-sound t tray purse-of shoe k cards (g .shaped) (g .sound) end;
+        shaped = end-shaped t tray purse-of shoe k (g .shaped) (g .sound) end;
+        sound = end-sound t tray purse-of shoe k (g .shaped) (g .sound) end;
         agrees =
             record {
               cards =
@@ -128,6 +128,6 @@ module _ (opening : List ℕ) (es : List Entry) (t : Table) (e : Entry) (tray : 
               decided = undecided .1 ∙ sym (simp (q .is-end));
               balance =
                   simp (q .no-fill, q .quiet .no-buy, q .no-credit, q .quiet .no-cash)
-                  (omega (arith, end-money t tray purse-of shoe k cards (g .shaped) (g .sound) end, a .balance));
+                  (omega (arith, end-money t tray purse-of shoe k (g .shaped) (g .sound) end, a .balance));
             };
       }

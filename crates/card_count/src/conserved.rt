@@ -1,43 +1,65 @@
-// Whether the cards of a table are those of its order (docs/BROKEN.md, 2 and 3): the order is valid, and what is out is what was drawn. The cards
-// that are left are counted once; with those that were drawn, and with those that are out, each face has to be there as often as there are decks.
-// Every table is taken, a damaged one too.
+// Whether the cards of a table are those of its order (docs/BROKEN.md, 2 and 3): the order is valid, the discards are its first drawn cards, and what
+// is out is what was drawn. The cards that are left and the discards are counted once; with the other drawn cards, and with those in hands and with
+// the bank, each face has to be there as often as there are decks. Every table is taken, a damaged one too.
 ghost use mathlib.Core.Path.{_≡_};
 ghost use mathlib.Core.Bool.{_&&_};
+ghost use Prim.Native.Nat.{_≤_};
+ghost use lib.Dec.{eqb};
+ghost use lib.ListN.{getD};
+ghost use Rattle.lists.specs.Below.{allBelow};
 ghost use Rattle.table.specs.Shoe.{validOrder, orderOf};
-ghost use Rattle.table.specs.Broken.{soundShoe, soundFaces};
+ghost use Rattle.table.specs.Broken.{soundShoe, soundDiscards, soundFaces};
 ghost use Rattle.card_count.specs.Aids.Left.{OrderFits, Left, OfValid};
 use crate::counters::count;
 use crate::counters::each_face;
-use crate::out_cards::count_out;
+use crate::out_cards::count_in_play;
 use table::Shoe;
 use table::Table;
 
-// The cards that are left, counted.
+// Whether the discards are the first cards of the order. The loop has no branch, so that the compiler compares several at a time.
+fn discards_first(sh: Shoe) -> bool
+    requires { ⌜ sh .discarded ≤ 416 ⌝ }
+    ensures { λ r. ⌜ r ≡ allBelow (λ k. eqb (getD (sh .discards) k 0) (getD (sh .order) k 0)) (sh .discarded) ⌝ }
+{
+    let n = sh.discarded;
+    let order = sh.order;
+    let discards = sh.discards;
+    let mut all = true;
+    for k in 0usize..n {
+        all = all & (discards[k] == order[k]);
+    }
+    all
+}
+
+// The cards that are left and the first ones, as many as there are discards, counted.
 fn left_counts(decks: u8, sh: Shoe) -> [u16; 256]
     requires { ⌜ OrderFits decks sh ⌝ }
     ensures { λ r. ⌜ Left r decks sh ⌝ }
 {
     let order = sh.order;
     let drawn = sh.drawn;
+    let discarded = sh.discarded;
     let all = 52 * (decks as usize);
     let mut of = [0u16; 256];
     count(&mut of, &order[drawn..all]);
+    count(&mut of, &order[..discarded]);
     of
 }
 
-// Whether the order is valid: its drawn cards are counted beside those that are left.
+// Whether the order is valid: its other drawn cards are counted beside those.
 fn order_valid(left: [u16; 256], decks: u8, sh: Shoe) -> bool
     requires { ⌜ Left left decks sh ⌝ }
     ensures { λ r. ⌜ r ≡ validOrder decks (orderOf decks sh) ⌝ }
 {
     let order = sh.order;
     let drawn = sh.drawn;
+    let discarded = sh.discarded;
     let mut of = left;
-    count(&mut of, &order[..drawn]);
+    count(&mut of, &order[discarded..drawn]);
     each_face(&of, decks as u16)
 }
 
-// Of a valid order, whether what is out is what was drawn: the cards that are out are counted beside those that are left.
+// Of a valid order, whether what is out is what was drawn: the cards in hands and with the bank are counted beside those.
 fn out_is_drawn(left: [u16; 256], t: Table) -> bool
     requires { ⌜ OfValid left t ⌝ }
     ensures { λ r. ⌜ r ≡ soundFaces t ⌝ }
@@ -45,16 +67,16 @@ fn out_is_drawn(left: [u16; 256], t: Table) -> bool
     let options = t.options;
     let shoe = t.shoe;
     let mut of = left;
-    let many = count_out(&mut of, t);
-    if many != shoe.drawn {
+    let many = count_in_play(&mut of, t);
+    if many + shoe.discarded != shoe.drawn {
         return false;
     }
     each_face(&of, options.decks as u16)
 }
 
-// Whether the order is valid, at most all of it is drawn, there is room for every discard, and what is out is what was drawn.
+// Whether the order is valid, at most all of it is drawn, the discards are its first drawn cards, and what is out is what was drawn.
 pub fn cards_conserved(t: Table) -> bool
-    ensures { λ r. ⌜ r ≡ (soundShoe t && soundFaces t) ⌝ }
+    ensures { λ r. ⌜ r ≡ (soundShoe t && soundDiscards t && soundFaces t) ⌝ }
 {
     let options = t.options;
     let decks = options.decks;
@@ -66,7 +88,10 @@ pub fn cards_conserved(t: Table) -> bool
     if all < shoe.drawn {
         return false;
     }
-    if 416 < shoe.discarded {
+    if shoe.drawn < shoe.discarded {
+        return false;
+    }
+    if !discards_first(shoe) {
         return false;
     }
     let left = left_counts(decks, shoe);

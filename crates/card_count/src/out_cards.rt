@@ -1,12 +1,9 @@
 // The cards of a table, counted part by part. Each function gives the number of cards that it counted.
-ghost use mathlib.Core.Path.{_≡_};
-ghost use Prim.Native.Nat.{min};
-ghost use lib.ListN.{take};
+ghost use mathlib.Core.List.{_++_};
 ghost use Rattle.lists.specs.Flat.{flat};
 ghost use Rattle.cards.specs.Hand.{cardsOf};
 ghost use Rattle.rules.specs.SeatHand.{handsOf};
-ghost use Rattle.table.specs.Table.{handCards};
-ghost use Rattle.table.specs.Faces.{outCards};
+ghost use Rattle.table.specs.Table.{handCards, bankCards};
 ghost use Rattle.card_count.specs.Aids.Counters.{Room};
 ghost use Rattle.card_count.specs.Aids.Counted.{Counted};
 use crate::counters::count;
@@ -15,13 +12,6 @@ use cards::hand::held;
 use rules::seat_hand::SeatHands;
 use rules::seat_hand::used;
 use table::Table;
-
-// The lesser of two numbers.
-fn lesser(a: usize, b: usize) -> usize
-    ensures { λ r. ⌜ r ≡ min a b ⌝ }
-{
-    if a < b { a } else { b }
-}
 
 // A hand's cards.
 fn count_hand(of: &mut [u16; 256], h: Hand) -> usize
@@ -64,26 +54,12 @@ fn count_seats(of: &mut [u16; 256], t: Table) -> usize
     many
 }
 
-// The first n cards of the discards, all 416 where a damaged count says more.
-fn count_first(of: &mut [u16; 256], cards: [u8; 416], n: usize) -> usize
-    requires { ⌜ Room (now of) 416 ⌝ }
-    ensures { λ r. ⌜ Counted (now (of .entry)) (now (of .exit)) (take n cards) r 416 ⌝ }
-{
-    let many = lesser(n, 416);
-    count(of, &cards[..many]);
-    many
-}
-
-// The cards that have left the shoe: in hands, with the bank and among the discards.
-pub(crate) fn count_out(of: &mut [u16; 256], t: Table) -> usize
-    requires { ⌜ Room (now of) 1156 ⌝ }
-    ensures { λ r. ⌜ Counted (now (of .entry)) (now (of .exit)) (outCards t) r 1156 ⌝ }
+// The cards in hands and with the bank.
+pub(crate) fn count_in_play(of: &mut [u16; 256], t: Table) -> usize
+    requires { ⌜ Room (now of) 740 ⌝ }
+    ensures { λ r. ⌜ Counted (now (of .entry)) (now (of .exit)) (handCards t ++ bankCards t) r 740 ⌝ }
 {
     let hands = count_seats(of, t);
     let h = t.bank;
-    let bank = count_hand(of, h);
-    let shoe = t.shoe;
-    let cards = shoe.discards;
-    let discards = count_first(of, cards, shoe.discarded);
-    hands + bank + discards
+    hands + count_hand(of, h)
 }

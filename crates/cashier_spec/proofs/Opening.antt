@@ -98,6 +98,8 @@ module _ (o : Options) (order : List ℕ) (a : OpeningAccepted o order) where
         valid = subst (λ (cards : List ℕ). validOrder (o .decks) cards ≡ true) (sym (loaded (o .decks) order (a .valid))) (a .valid);
         drawn = omega arith;
         discarded = omega arith;
+        discarded-drawn = omega arith;
+        discards = λ k h. absurd (omega arith);
         faces = λ b h. refl;
         number = refl;
         seats = λ i h. subst (SoundSeat o (isDealt (openTable o order)) (up (openTable o order)) i) (sym (empty-at i h)) (empty-sound o order i);

@@ -30,6 +30,8 @@ module _ {t : Table} {tray came went : ℕ} (moves : TrayMoves t tray came went)
       valid = sound .valid;
       drawn = sound .drawn;
       discarded = sound .discarded;
+      discarded-drawn = sound .discarded-drawn;
+      discards = sound .discards;
       faces = sound .faces;
       number = sound .number;
       seats = sound .seats;

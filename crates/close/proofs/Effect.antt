@@ -1,6 +1,6 @@
 -- The effect of close and what it shows, each from the parts that the code makes.
 use mathlib.Core.Path.{_≡_, _∙_, ap}
-use mathlib.Core.List.{map, _++_}
+use mathlib.Core.List.{map}
 use Prim.Native.Nat.{ℕ, _+_, _-_}
 use Rattle.lists.specs.Sum.{sumOf}
 use Rattle.cards.specs.declared.hand.Hand.{Hand}
@@ -9,14 +9,14 @@ use Rattle.payment.specs.declared.bank.Score.{Score}
 use Rattle.payment.specs.Bank.{scoreOf}
 use Rattle.table.specs.declared.Shoe.{Shoe}
 use Rattle.table.specs.declared.Table.{Table}
-use Rattle.table.specs.Shoe.{withDrawn, discard}
-use Rattle.table.specs.Table.{makeTable, handCards}
+use Rattle.table.specs.Shoe.{withDrawn, discardDrawn}
+use Rattle.table.specs.Table.{makeTable}
 use Rattle.table.specs.Aids.WithSeats.{withSeats}
 use Rattle.table.specs.Money.{layout}
 use Rattle.answer.specs.declared.settlement.PayLines.{PayLines}
 use Rattle.answer.specs.Settlement.{makeSettlement, linesOf}
 use Rattle.answer.specs.Reply.{makeReplyView, makeReply, viewOf}
-use Rattle.close_spec.specs.BankDraw.{burntAtClose, bankAtClose, closeTakes}
+use Rattle.close_spec.specs.BankDraw.{bankAtClose, closeTakes}
 use Rattle.close_spec.specs.PayLines.{allLines}
 use Rattle.close_spec.specs.Close.{closeScore, seatBack, paidSeat, closeEffect, closeShown}
 
@@ -30,7 +30,7 @@ pub close-is : (t u : Table) (score : Score) (laid back : ℕ) (none : Hand) (sh
     → laid ≡ layout t
     → back ≡ sumOf (seatBack (t .options) score) (t .seats)
     → none ≡ emptyHand
-    → shoe ≡ discard (withDrawn (t .shoe) (closeTakes t)) (burntAtClose t ++ handCards t ++ bankAtClose t)
+    → shoe ≡ discardDrawn (withDrawn (t .shoe) (closeTakes t))
     → makeTable (u .options) (t .tray + laid - back) (u .seats) none shoe ≡ closeEffect t
 unfolding closeEffect
 close-is t u score laid back none shoe same seats lay goes empty cards = rw (seats, lay, goes, empty, cards, same)

@@ -1,2 +1,2 @@
--- Laws of the cards that close makes discards.
+-- Laws of the cards that close draws.
 pub mod Clears

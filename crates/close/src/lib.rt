@@ -2,7 +2,6 @@
 // `void`, which ends a round too; the other modules are their parts, and only these two calls are public.
 mod bank_draw;
 mod clearing;
-mod discards;
 mod pay_lines;
 mod paying;
 mod seats;

@@ -5,8 +5,6 @@ ghost use Rattle.call.specs.Refusal.{first};
 ghost use Rattle.answer.specs.Outcome.{outcome};
 ghost use Rattle.table.specs.Aids.Sound.{Sound};
 ghost use Rattle.close_spec.specs.Void.{voidConditions, voidEffect};
-use crate::discards::discard_hand;
-use crate::discards::discard_seats;
 use crate::seats::Ending;
 use crate::seats::ended_seats;
 use answer::outcome::Outcome;
@@ -14,23 +12,19 @@ use broken::broken;
 use call::refusal::asked;
 use cards::hand::empty_hand;
 use money::sums::table_sums;
+use shoe::discard_drawn;
 use table::Table;
 
-// The seats with what they laid, the prizes in the tray, and the cards of the hands by seat and place, then the bank's, behind the other discards.
+// The seats with what they laid, the prizes in the tray, and all drawn cards as discards.
 fn voided(t: Table) -> Table
     requires { ⌜ Sound t ⌝ }
     ensures { λ r. ⌜ r ≡ voidEffect t ⌝ }
 {
     let mut next = ended_seats(t, Ending::Void);
     let sums = table_sums(t);
-    let bank = t.bank;
-    let shoe = t.shoe;
-    let none = empty_hand();
-    let seats_in = discard_seats(shoe, t);
-    let all_in = discard_hand(seats_in, bank);
     next.tray = t.tray + sums.prizes;
-    next.bank = none;
-    next.shoe = all_in;
+    next.bank = empty_hand();
+    next.shoe = discard_drawn(t.shoe);
     next
 }
 

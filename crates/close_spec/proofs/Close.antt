@@ -26,7 +26,7 @@ use Rattle.rules.specs.Turn.{someWaits}
 use Rattle.table.specs.declared.Seat.{Seat}
 use Rattle.table.specs.declared.Table.{Table}
 use Rattle.table.specs.Seat.{missingSeat, purse, stake, insurance, hands, laid}
-use Rattle.table.specs.Shoe.{withDrawn, discard, isFresh}
+use Rattle.table.specs.Shoe.{withDrawn, discardDrawn, isFresh}
 use Rattle.table.specs.Table.{seatAt, seatsHands, isDealt, up, tableOrder}
 use Rattle.table.specs.Money.{layout}
 use Rattle.table.specs.Shape.{Shaped}
@@ -42,7 +42,7 @@ use Rattle.agreement.proofs.EndOfRound.{Ends, ends, EndCall, purse-end, end-cal
 use Rattle.close_spec.specs.BankDraw.{bankAtClose, closeTakes}
 use Rattle.close_spec.specs.Close.{closeConditions, closeScore, seatBack, closeEffect}
 use Rattle.close_spec.proofs.BankDraw.{burns-same}
-use Rattle.close_spec.proofs.Taken.{cardsAt, closedCards, one-bank, final-same, takes, enough, moved}
+use Rattle.close_spec.proofs.Taken.{cardsAt, one-bank, final-same, takes, enough}
 use Rattle.close_spec.proofs.Nets.{nets-diff, insurance-diff, laid-wagers}
 use Rattle.close_spec.proofs.Tray.{dealt-seat, tray-pays}
 
@@ -88,7 +88,7 @@ module _ (t : Table) (shaped : Shaped t) (ok : CloseAccepted t) where
         cond-most (closeScore t .natural) {x = 3 * insurance s} {y = 0} {k = 3 * insurance s} (omega arith) (omega arith),
       )
 
-  end : RoundEnd t (t .tray + layout t - sumOf (seatBack o (closeScore t)) (t .seats)) paid (discard (withDrawn (t .shoe) (closeTakes t)) (closedCards t)) (closeTakes t) (closedCards t)
+  end : RoundEnd t (t .tray + layout t - sumOf (seatBack o (closeScore t)) (t .seats)) paid (discardDrawn (withDrawn (t .shoe) (closeTakes t))) (closeTakes t)
   end =
       record {
         paid = omega (arith, covered, sum-plus purse (seatBack o (closeScore t)) (t .seats));
@@ -96,9 +96,8 @@ module _ (t : Table) (shaped : Shaped t) (ok : CloseAccepted t) where
         same-order = refl;
         more-drawn = refl;
         enough = enough t (ok .sound) (ok .dealt) (ok .stands);
-        more-discards = refl;
-        more-discarded = refl;
-        cards-moved = moved t (ok .sound) (ok .dealt) (ok .stands);
+        all-discards = refl;
+        all-discarded = refl;
       }
 
   -- what a seat of any number has laid
@@ -112,7 +111,7 @@ module _ (t : Table) (shaped : Shaped t) (ok : CloseAccepted t) where
 
   kept : Shaped (closeEffect t) × Sound (closeEffect t)
   unfolding closeEffect
-  kept = (end-shaped t _ paid _ (closeTakes t) (closedCards t) shaped (ok .sound) end, end-sound t _ paid _ (closeTakes t) (closedCards t) shaped (ok .sound) end)
+  kept = (end-shaped t _ paid _ (closeTakes t) shaped (ok .sound) end, end-sound t _ paid _ (closeTakes t) shaped (ok .sound) end)
 
 pub close-kept : (t : Table) → Shaped t → Sound t → first (closeConditions t) ≡ 0 → Shaped (closeEffect t) × Sound (closeEffect t)
 close-kept t shaped sound e = kept t shaped (close-accepted t e)
@@ -144,7 +143,7 @@ module _ (opening : List ℕ) (es : List Entry) (t : Table) (order : List ℕ) (
       (diff-add (diff-pos (laid s)) (diff-add (nets-diff (t .options) opening (closeScore t) (stake s) (hands s)) (insurance-diff (closeScore t) (insurance s)))))
       (a .purse-is) (omega (arith, all-laid t (g .shaped) ok i))
 
-  call : EndCall opening es t (entry Close order) (t .tray + layout t - sumOf (seatBack (t .options) (closeScore t)) (t .seats)) (paid t (g .shaped) ok) (discard (withDrawn (t .shoe) (closeTakes t)) (closedCards t)) (closeTakes t) (closedCards t)
+  call : EndCall opening es t (entry Close order) (t .tray + layout t - sumOf (seatBack (t .options) (closeScore t)) (t .seats)) (paid t (g .shaped) ok) (discardDrawn (withDrawn (t .shoe) (closeTakes t))) (closeTakes t)
   unfolding callTakes
   call =
       record {
@@ -159,4 +158,4 @@ pub close-good : (opening : List ℕ) (es : List Entry) (t : Table) (order : Lis
 unfolding closeEffect
 close-good opening es t order g e =
     let ok = close-accepted t e in
-    end-call opening es t (entry Close order) _ _ _ _ _ g (end t (g .shaped) ok) (call opening es t order g ok)
+    end-call opening es t (entry Close order) _ _ _ _ g (end t (g .shaped) ok) (call opening es t order g ok)

@@ -1,21 +1,19 @@
--- How many cards a close takes, that the shoe has them, and what becomes discards.
+-- How many cards a close takes, and that the shoe has them.
 use mathlib.Core.Path.{_≡_, refl, ap}
 use mathlib.Core.Bool.{true, false}
 use mathlib.Core.List.{List, [], _∷_, _++_}
 use Prim.Native.Nat.{ℕ, _+_, _*_, _≤_}
 use native.Mathlib.Omega.{arith}
 use lib.ListN.{length, getD, take, drop, length-take, length-drop}
-use lib.Seq.{take-add, length-take-le}
+use lib.Seq.{length-take-le}
 use borrow.Author.Tests.{ltb-true}
-use Rattle.lists.specs.Sum.{sumOf}
-use Rattle.lists.proofs.Sums.{sum-append}
 use Rattle.payment.specs.Bank.{mustDraw}
 use Rattle.table.specs.declared.Table.{Table}
 use Rattle.table.specs.Shoe.{isFresh}
-use Rattle.table.specs.Table.{handCards, bankCards, isDealt, up, tableOrder, tableShoe}
+use Rattle.table.specs.Table.{bankCards, isDealt, up, tableOrder, tableShoe}
 use Rattle.table.specs.Aids.Sound.{Sound}
 use Rattle.history.specs.Cards.{Cards, bankTaken, bankFinal}
-use Rattle.close_spec.specs.BankDraw.{bankBurn, bankTakes, burntAtClose, bankAtClose, closeTakes}
+use Rattle.close_spec.specs.BankDraw.{bankBurn, bankTakes, bankAtClose, closeTakes}
 use Rattle.close_spec.proofs.BankDraw.{known, bank-same, bank-enough, bank-new}
 
 list-of-one : (xs : List ℕ) → length xs ≡ 1 → xs ≡ getD xs 0 0 ∷ []
@@ -32,10 +30,6 @@ taken t = bankTaken (t .options) (cardsAt t)
 
 abbrev behind : Table → List ℕ
 behind t = drop (bankBurn (t .options)) (tableShoe t)
-
--- all cards that become discards
-abbrev pub closedCards : Table → List ℕ
-closedCards t = burntAtClose t ++ handCards t ++ bankAtClose t
 
 -- a dealt round of a sound table whose bank stands once it has drawn
 module _ (t : Table) (sound : Sound t) (dealt : isDealt t ≡ true) (stands : mustDraw (bankAtClose t) ≡ false) where
@@ -85,20 +79,4 @@ module _ (t : Table) (sound : Sound t) (dealt : isDealt t ≡ true) (stands : mu
         length-drop (t .shoe .drawn) (tableOrder t),
         length-take (52 * t .options .decks) (t .shoe .order),
         sound .drawn,
-      )
-
-  pub moved : (w : ℕ → ℕ) → sumOf w (closedCards t) ≡ sumOf w (handCards t ++ bankCards t) + sumOf w (take (closeTakes t) (tableShoe t))
-  moved w =
-      let new = take (taken t) (behind t) in
-      omega (
-        arith,
-        sum-append w (burntAtClose t ++ handCards t) (bankAtClose t),
-        sum-append w (burntAtClose t) (handCards t),
-        ap (sumOf w) at-close,
-        sum-append w (up t ∷ []) new,
-        ap (sumOf w) one-bank,
-        sum-append w (handCards t) (bankCards t),
-        ap (λ (n : ℕ). sumOf w (take n (tableShoe t))) takes,
-        ap (sumOf w) (take-add (bankBurn (t .options)) (taken t) (tableShoe t)),
-        sum-append w (burntAtClose t) new,
       )

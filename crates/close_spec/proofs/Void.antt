@@ -2,7 +2,7 @@
 -- it finds is one record, a fact for each condition.
 use mathlib.Core.Path.{_≡_, refl}
 use mathlib.Core.Bool.{true}
-use mathlib.Core.List.{List, _∷_, _++_}
+use mathlib.Core.List.{List, _∷_}
 use Prim.Native.Nat.{ℕ, _+_, _≤_}
 use native.Mathlib.Decide.{decLe}
 use native.Mathlib.Omega.{arith}
@@ -20,7 +20,7 @@ use Rattle.options.specs.declared.Options.{Options}
 use Rattle.table.specs.declared.Seat.{Seat}
 use Rattle.table.specs.declared.Table.{Table}
 use Rattle.table.specs.Seat.{missingSeat, purse, laid, prizes}
-use Rattle.table.specs.Table.{seatAt, someStaked, handCards, bankCards}
+use Rattle.table.specs.Table.{seatAt, someStaked}
 use Rattle.table.specs.Money.{allMoney}
 use Rattle.table.specs.Shape.{Shaped}
 use Rattle.table.specs.Aids.Sound.{Sound, HoldsNothing}
@@ -75,8 +75,8 @@ void-ends : (order : List ℕ) → Ends (entry Void order)
 unfolding allOf
 void-ends order = ends (entry Void order) refl refl
 
-round-end : (t : Table) → Shaped t → Sound t → RoundEnd t (voidEffect t .tray) (purseBack (t .options)) (voidEffect t .shoe) 0 (handCards t ++ bankCards t)
-unfolding sumOf voidEffect
+round-end : (t : Table) → Shaped t → Sound t → RoundEnd t (voidEffect t .tray) (purseBack (t .options)) (voidEffect t .shoe) 0
+unfolding voidEffect
 round-end t shaped sound =
     record {
       paid = void-paid t shaped sound;
@@ -84,18 +84,16 @@ round-end t shaped sound =
       same-order = refl;
       more-drawn = omega arith;
       enough = omega (arith, sound .drawn);
-      more-discards = refl;
-      more-discarded = refl;
-      cards-moved = λ w. omega arith;
+      all-discards = refl;
+      all-discarded = refl;
     }
 
 pub void-kept : (t : Table) → Shaped t → Sound t → Shaped (voidEffect t) × Sound (voidEffect t)
 unfolding voidEffect
 void-kept t shaped sound =
-    let cards = handCards t ++ bankCards t in
     let end = round-end t shaped sound in (
-      end-shaped t (voidEffect t .tray) (purseBack (t .options)) (voidEffect t .shoe) 0 cards shaped sound end,
-      end-sound t (voidEffect t .tray) (purseBack (t .options)) (voidEffect t .shoe) 0 cards shaped sound end,
+      end-shaped t (voidEffect t .tray) (purseBack (t .options)) (voidEffect t .shoe) 0 shaped sound end,
+      end-sound t (voidEffect t .tray) (purseBack (t .options)) (voidEffect t .shoe) 0 shaped sound end,
     )
 
 module _ (opening : List ℕ) (es : List Entry) (t : Table) (order : List ℕ) (g : Good opening es t) where
@@ -108,13 +106,12 @@ module _ (opening : List ℕ) (es : List Entry) (t : Table) (order : List ℕ) (
       (a .purse-is) (omega (arith, a .laid-is, a .prizes-are, prizes-within t (g .shaped) (g .sound) i))
 
   -- the history's call
-  void-call : EndCall opening es t (entry Void order) (voidEffect t .tray) (purseBack (t .options)) (voidEffect t .shoe) 0 (handCards t ++ bankCards t)
+  void-call : EndCall opening es t (entry Void order) (voidEffect t .tray) (purseBack (t .options)) (voidEffect t .shoe) 0
   unfolding callTakes voidEffect
   void-call = record { ends = void-ends order; takes = refl; same-fresh = refl; purses = purse-back }
 
 pub void-good : (opening : List ℕ) (es : List Entry) (t : Table) (order : List ℕ) → Good opening es t → first (voidConditions t) ≡ 0 → Good opening (entry Void order ∷ es) (voidEffect t)
 unfolding voidEffect
 void-good opening es t order g accepted =
-    let cards = handCards t ++ bankCards t in
-    end-call opening es t (entry Void order) (voidEffect t .tray) (purseBack (t .options)) (voidEffect t .shoe) 0 cards g
+    end-call opening es t (entry Void order) (voidEffect t .tray) (purseBack (t .options)) (voidEffect t .shoe) 0 g
     (round-end t (g .shaped) (g .sound)) (void-call opening es t order g)

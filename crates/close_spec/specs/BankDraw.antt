@@ -4,7 +4,7 @@ use mathlib.Core.Bool.{cond}
 use mathlib.Core.List.{List, [], _∷_, _++_}
 use Prim.Native.Nat.{ℕ, _+_, _-_}
 use lib.Dec.{eqb}
-use lib.ListN.{length, take, drop}
+use lib.ListN.{length, drop}
 use Rattle.options.specs.declared.Options.{Options}
 use Rattle.payment.specs.Bank.{mustDraw}
 use Rattle.table.specs.declared.Table.{Table}
@@ -19,10 +19,7 @@ unfoldable pub bankTakes : List ℕ → List ℕ → List ℕ
 bankTakes cards [] = cards
 bankTakes cards (card ∷ rest) = cond (mustDraw cards) (bankTakes (cards ++ (card ∷ [])) rest) cards
 
--- The card that is burnt at close, and the bank's cards.
-abbrev pub burntAtClose : Table → List ℕ
-burntAtClose t = take (bankBurn (t .options)) (tableShoe t)
-
+-- The bank's cards, behind the card that is burnt.
 unfoldable pub bankAtClose : Table → List ℕ
 bankAtClose t = bankTakes (bankCards t) (drop (bankBurn (t .options)) (tableShoe t))
 

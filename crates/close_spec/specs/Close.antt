@@ -1,6 +1,6 @@
 -- Document 01, "The seventeen calls", close: the bank's cards are drawn, then all is paid and all cards become discards (articles 7 and 9 to 12).
 -- Here are its numbers, the table after it, and what it returns: the bank's cards and the pay lines.
-use mathlib.Core.List.{List, [], _∷_, _++_, map}
+use mathlib.Core.List.{List, [], _∷_, map}
 use Prim.Native.Nat.{ℕ, _+_, _-_}
 use Rattle.lists.specs.Sum.{sumOf}
 use Rattle.call.specs.Refusal.{Condition}
@@ -15,12 +15,12 @@ use Rattle.payment.specs.Insurance.{insurancePay}
 use Rattle.table.specs.declared.Seat.{Seat}
 use Rattle.table.specs.declared.Table.{Table}
 use Rattle.table.specs.Seat.{clearedSeat, purse, stake, insurance, hands}
-use Rattle.table.specs.Shoe.{withDrawn, discard}
-use Rattle.table.specs.Table.{makeTable, seatsHands, handCards, up}
+use Rattle.table.specs.Shoe.{withDrawn, discardDrawn}
+use Rattle.table.specs.Table.{makeTable, seatsHands, up}
 use Rattle.table.specs.Money.{layout}
 use Rattle.table.specs.Broken.{broken}
 use Rattle.answer.specs.Conditions.{inRound}
-use Rattle.close_spec.specs.BankDraw.{burntAtClose, bankAtClose, closeTakes}
+use Rattle.close_spec.specs.BankDraw.{bankAtClose, closeTakes}
 use Rattle.close_spec.specs.PayLines.{allLines}
 
 -- 7 a hand waits; 18 the shoe ends before the bank's total reaches 17.
@@ -42,13 +42,13 @@ seatBack o bank s = sumOf (λ h. handPay o bank (stake s) h .back) (hands s) + i
 abbrev pub paidSeat : Options → Score → Seat → Seat
 paidSeat o bank s = clearedSeat (purse s + seatBack o bank s)
 
--- What lay on the layout goes to the tray, what goes back comes from it. Discards: the burnt card, hands by seat and place, the bank.
+-- What lay on the layout goes to the tray, what goes back comes from it. All drawn cards are discards.
 unfoldable pub closeEffect : Table → Table
 closeEffect t =
     makeTable (t .options) (t .tray + layout t - sumOf (seatBack (t .options) (closeScore t)) (t .seats))
     (map (paidSeat (t .options) (closeScore t)) (t .seats))
     emptyHand
-    (discard (withDrawn (t .shoe) (closeTakes t)) (burntAtClose t ++ handCards t ++ bankAtClose t))
+    (discardDrawn (withDrawn (t .shoe) (closeTakes t)))
 
 -- Close returns the bank's cards and the pay lines.
 unfoldable pub closeShown : Table → Shown

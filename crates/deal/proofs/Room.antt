@@ -2,10 +2,9 @@
 use mathlib.Core.Path.{_≡_}
 use Prim.Native.Nat.{_+_, _*_, _≤_}
 use native.Mathlib.Omega.{arith}
-use lib.ListN.{length}
 use Rattle.call.specs.Refusal.{first}
 use Rattle.table.specs.declared.Table.{Table}
-use Rattle.table.proofs.Facts.{decks-416, room-discards}
+use Rattle.table.proofs.Facts.{decks-416}
 use Rattle.deal_spec.specs.Deal.{burnt, dealTakes, dealConditions}
 use Rattle.deal_spec.proofs.DealAccepted.{deal-accepted}
 
@@ -15,13 +14,13 @@ pub record Room (t : Table) : Type 0 where
   pub decks : 52 * t .options .decks ≤ 416
   pub discards : t .shoe .discarded ≤ t .shoe .drawn
 
-pub deal-room : (t : Table) → length (t .shoe .discards) ≡ 416 → first (dealConditions t) ≡ 0 → Room t
+pub deal-room : (t : Table) → first (dealConditions t) ≡ 0 → Room t
 unfolding dealTakes
-deal-room t full e =
+deal-room t e =
     let ok = deal-accepted t e in
     record {
       enough = ok .enough;
       burn = omega arith;
       decks = decks-416 t (ok .sound);
-      discards = omega (arith, room-discards t full (ok .sound));
+      discards = ok .sound .discarded-drawn;
     }

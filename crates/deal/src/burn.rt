@@ -1,5 +1,4 @@
 // How many cards a deal burns and takes, and the burning itself: cards of the shoe onto the discards (document 01, "House options"; article 4).
-// Close burns by it too.
 ghost use mathlib.Core.Path.{_≡_};
 ghost use Prim.Native.Nat.{_+_, _*_, _≤_};
 ghost use lib.ListN.{take};
@@ -33,9 +32,8 @@ pub(crate) fn deal_takes(t: Table) -> usize
     burn_at_deal(t.options, t.shoe) + 2 * staked_seats(t) + 1
 }
 
-// The next n cards of the order become discards. Public for the calls alone, which burn only cards that are left: so it asks that the order has them,
-// and for room.
-pub fn burn(sh: Shoe, decks: u8, n: usize) -> Shoe
+// The next n cards of the order become discards. It asks that the order has them, and for room.
+pub(crate) fn burn(sh: Shoe, decks: u8, n: usize) -> Shoe
     requires { ⌜ (sh .drawn + n ≤ 52 * decks) × (52 * decks ≤ 416) × (sh .discarded + n ≤ 416) ⌝ }
     ensures { λ r. ⌜ r ≡ discard sh (take n (leftOf decks sh)) ⌝ }
 {

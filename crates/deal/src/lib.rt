@@ -1,6 +1,6 @@
 // deal: burns, then one card to each staked seat, one to the bank, and a second to each (document 01, "The seventeen calls"; articles 4 and 5).
 // Every table is taken: the number says why one is refused.
-pub mod burn;
+mod burn;
 mod pass;
 
 ghost use mathlib.Core.Path.{_≡_};

@@ -1,5 +1,5 @@
 -- The table after an accepted deal is sound: each staked seat has one hand of two cards, the bank one card, and the burnt cards are discards.
-use mathlib.Core.Path.{_≡_, refl, sym, _∙_, ap}
+use mathlib.Core.Path.{_≡_, refl, sym, _∙_, ap, ap₂}
 use mathlib.Core.Bool.{true, false, cond, true≢false}
 use mathlib.Core.List.{List, _++_}
 use Prim.Native.Nat.{ℕ, suc, _+_, _*_, _≤_, _<_}
@@ -12,13 +12,14 @@ use borrow.Author.Tests.{ltb-true, ltb-false}
 use Rattle.lists.specs.Sum.{sumOf, isIt}
 use Rattle.lists.specs.Tests.{anyOf}
 use Rattle.lists.specs.Flat.{flat}
-use Rattle.lists.proofs.Sums.{sum-append, sum-none, sum-ones, sum-take}
+use Rattle.lists.proofs.Sums.{sum-append, sum-flat, sum-none, sum-ones, sum-take}
+use Rattle.lists.proofs.Places.{same-taken, taken-same}
 use Rattle.cards.specs.Hand.{withCard}
 use Rattle.table.specs.declared.Money.{Money}
 use Rattle.table.specs.declared.Seat.{Seat}
 use Rattle.table.specs.declared.Table.{Table}
 use Rattle.table.specs.Seat.{missingSeat, purse, stake, insurance, isStaked, laid, prizes, seatCards}
-use Rattle.table.specs.Table.{seatAt, up, bankCards, tableDrawn, tableShoe, tableDiscards}
+use Rattle.table.specs.Table.{seatAt, up, handCards, bankCards, tableDrawn, tableShoe, tableDiscards}
 use Rattle.table.specs.Money.{allMoney}
 use Rattle.table.specs.Faces.{outCards}
 use Rattle.table.specs.Shape.{Shaped, ShapedSeat}
@@ -210,12 +211,41 @@ module _ (t : Table) (shaped : Shaped t) (ok : DealAccepted t) where
   unfolding dealTakes
   burnt-many = shoe-takes (burnt t) (omega (arith, ok .enough))
 
+  burnt-within : burnt t ≤ dealTakes t
+  unfolding dealTakes
+  burnt-within = omega arith
+
   burnt-room : t .shoe .discarded + length burntCards ≤ 416
   burnt-room = omega (arith, all-places, burnt-many, room-discards t (shaped .discards) (ok .sound))
 
   discards-after : tableDiscards (dealEffect t) ≡ tableDiscards t ++ burntCards
   unfolding dealEffect
   discards-after = sets-taken (t .shoe .discards) (t .shoe .discarded) burntCards (omega (arith, burnt-room, shaped .discards))
+
+  -- between rounds all drawn cards are discards, so that the burnt ones are the next
+  all-discarded : t .shoe .discarded ≡ t .shoe .drawn
+  all-discarded =
+      omega (
+        arith,
+        room-discards t (shaped .discards) (ok .sound),
+        sum-ones (handCards t ++ bankCards t),
+        sum-append (λ x. 1) (handCards t) (bankCards t),
+        sum-flat (λ x. 1) seatCards (t .seats),
+        no-bank-yet (λ x. 1),
+        sum-none (λ s. sumOf (λ x. 1) (seatCards s)) (t .seats) missingSeat (λ i h. no-cards (seatAt t i) (no-hand-yet i) (λ x. 1)),
+      )
+
+  discards-first : tableDiscards t ≡ take (t .shoe .discarded) (t .shoe .order)
+  discards-first =
+      taken-same (t .shoe .discarded) (t .shoe .discards) (t .shoe .order) 0 (ok .sound .discards) (omega (arith, shaped .discards, order-length))
+
+  burnt-next : burntCards ≡ take (length burntCards) (drop (t .shoe .discarded) (t .shoe .order))
+  burnt-next =
+      part-of-take (burnt t) (t .shoe .drawn) (52 * t .options .decks) (t .shoe .order) (omega (arith, ok .enough, burnt-within))
+      ∙ ap₂ (λ (n d : ℕ). take n (drop d (t .shoe .order))) (sym burnt-many) (sym all-discarded)
+
+  burns-next : tableDiscards (dealEffect t) ≡ take (t .shoe .discarded + length burntCards) (t .shoe .order)
+  burns-next = discards-after ∙ ap₂ _++_ discards-first burnt-next ∙ sym (take-add (t .shoe .discarded) (length burntCards) (t .shoe .order))
 
   -- what the deal takes of the shoe, in its order: the burnt cards, the first pass, the bank's card and the second pass
   taken-parts : (w : ℕ → ℕ)
@@ -288,6 +318,8 @@ module _ (t : Table) (shaped : Shaped t) (ok : DealAccepted t) where
     valid = ok .sound .valid;
     drawn = ok .enough;
     discarded = burnt-room;
+    discarded-drawn = omega (arith, all-discarded, burnt-many, burnt-within);
+    discards = same-taken (t .shoe .discarded + length burntCards) (dealEffect t .shoe .discards) (t .shoe .order) 0 burns-next;
     faces = λ b h. omega (arith, out-cards (isIt b), drawn-cards (isIt b), ok .sound .faces b h);
     number = omega (arith, out-cards (λ x. 1), shoe-takes (dealTakes t) (ok .enough), sum-ones (outCards (dealEffect t)), sum-ones (outCards t), sum-ones (take (dealTakes t) (tableShoe t)), ok .sound .number);
     seats = λ i h. seat-sound i (upCard t) h;

@@ -1,11 +1,10 @@
--- Laws of one list of several: of a mapped list, and the lists of the first elements and their length.
+-- Laws of one list of several: of a mapped list, and the lists of the first elements.
 use mathlib.Core.Path.{_≡_, refl, sym, _∙_, ap}
 use mathlib.Core.List.{List, [], _∷_, _++_, map, append-assoc, append-nil}
-use Prim.Native.Nat.{ℕ, zero, suc, _+_, _≤_, _<_}
+use Prim.Native.Nat.{ℕ, zero, suc, _+_, _<_}
 use native.Mathlib.Nat.{le-of-suc-le-suc, not-suc-le-zero}
 use native.Mathlib.Numerals.{add-one}
-use native.Mathlib.Omega.{arith}
-use lib.ListN.{length, take, getD, length-append}
+use lib.ListN.{length, take, getD}
 use Rattle.lists.specs.Flat.{flat}
 
 module _ {A B C : Type 0} where
@@ -24,11 +23,3 @@ module _ {A B : Type 0} where
   -- the first i + 1 elements: the first i, and the one at i
   pub flat-next : (f : A → List B) (xs : List A) (i : ℕ) (d : A) → i < length xs → flat f (take (i + 1) xs) ≡ flat f (take i xs) ++ f (getD xs i d)
   flat-next f xs i d h = ap (λ (n : ℕ). flat f (take n xs)) (add-one i) ∙ flat-take f xs i d h
-
-  -- those of the first i elements and of the one at i are no longer than all of them
-  pub flat-fits : (f : A → List B) (xs : List A) (i : ℕ) (d : A) → i < length xs → length (flat f (take i xs)) + length (f (getD xs i d)) ≤ length (flat f xs)
-  unfolding flat
-  flat-fits f [] i d h = absurd (not-suc-le-zero h)
-  flat-fits f (x ∷ xs) zero d h = omega (arith, length-append (f x) (flat f xs))
-  flat-fits f (x ∷ xs) (suc i) d h =
-      omega (arith, length-append (f x) (flat f (take i xs)), length-append (f x) (flat f xs), flat-fits f xs i d (le-of-suc-le-suc h))

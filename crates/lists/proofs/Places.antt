@@ -1,11 +1,12 @@
 -- Laws of a list's places: what a changed or a mapped list has at each of them, past its end too.
-use mathlib.Core.Path.{_≡_, refl, sym, ap}
+use mathlib.Core.Path.{_≡_, refl, sym, _∙_, ap}
 use mathlib.Core.List.{List, [], _∷_, map}
 use Prim.Native.Nat.{ℕ, zero, suc, _<_}
 use native.Mathlib.Nat.{le-of-suc-le-suc, not-suc-le-zero}
 use native.Mathlib.Decide.{ℕ-discrete}
-use lib.ListN.{length, getD, take, set}
-use lib.Seq.{getD-set-same, getD-set-other}
+use native.Mathlib.Omega.{arith}
+use lib.ListN.{length, getD, take, set, length-take}
+use lib.Seq.{ext-getD, getD-take, getD-set-same, getD-set-other}
 
 module _ {A B : Type 0} where
   -- a view of a mapped list, where the default's view stays
@@ -30,6 +31,16 @@ module _ {A : Type 0} where
   getD-any [] i d e h = absurd (not-suc-le-zero h)
   getD-any (x ∷ xs) zero d e h = refl
   getD-any (x ∷ xs) (suc i) d e h = getD-any xs i d e (le-of-suc-le-suc h)
+
+  -- two lists with the same first n elements have the same at each of those places
+  pub same-taken : (n : ℕ) (xs ys : List A) (d : A) → take n xs ≡ take n ys → (i : ℕ) → i < n → getD xs i d ≡ getD ys i d
+  same-taken n xs ys d e i h = sym (getD-take n xs i d h) ∙ ap (λ (l : List A). getD l i d) e ∙ getD-take n ys i d h
+
+  pub taken-same : (n : ℕ) (xs ys : List A) (d : A) → ((i : ℕ) → i < n → getD xs i d ≡ getD ys i d) → length xs ≡ length ys → take n xs ≡ take n ys
+  taken-same n xs ys d each same =
+      ext-getD d (take n xs) (take n ys) (simp (length-take, same)) (λ i h.
+      let l : i < n = omega (arith, length-take n xs) in
+      getD-take n xs i d l ∙ each i l ∙ sym (getD-take n ys i d l))
 
   -- what holds at a place, and of the element that is put into place j, holds there after the change
   pub holds-set : (P : ℕ → A → Type 0) (xs : List A) (j i : ℕ) (a d : A) → j < length xs → P j a → P i (getD xs i d) → P i (getD (set xs j a) i d)

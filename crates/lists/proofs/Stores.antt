@@ -24,6 +24,10 @@ module _ {A : Type 0} where
       ap (take (n + length xs)) (sets-eq xs l n room)
       ∙ take-at (take n l ++ xs) (drop (n + length xs) l) (n + length xs) (omega (arith, length-append (take n l) xs, length-take-le n l (omega arith)))
 
+  -- from the front
+  pub sets-front : (l xs : List A) → length xs ≤ length l → take (length xs) (sets l 0 xs) ≡ xs
+  sets-front l xs room = let n : length xs ≡ 0 + length xs = omega arith in ap (λ (k : ℕ). take k (sets l 0 xs)) n ∙ sets-taken l 0 xs (omega arith)
+
   -- the first i elements are copied, and now the one at i
   pub copy-next : (xs ys : List A) (i : ℕ) (d : A) → i < length xs → i < length ys → set (take i xs ++ drop i ys) i (getD xs i d) ≡ take (i + 1) xs ++ drop (i + 1) ys
   copy-next xs ys i d h k =

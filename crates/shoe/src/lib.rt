@@ -1,8 +1,8 @@
-// Cards of the shoe (document 01, "The seventeen calls"): those ahead, so many drawn, and the new shoe of a load.
+// Cards of the shoe (document 01, "The seventeen calls"): those ahead, so many drawn, all drawn ones as discards, and the new shoe of a load.
 ghost use mathlib.Core.Path.{_≡_};
 ghost use Prim.Native.Nat.{_+_, _≤_};
 ghost use lib.ListN.{length, getD};
-ghost use Rattle.table.specs.Shoe.{newShoe, withDrawn};
+ghost use Rattle.table.specs.Shoe.{newShoe, withDrawn, discardDrawn};
 ghost use Rattle.shoe.specs.Aids.Empty.{noCards};
 use table::Shoe;
 
@@ -29,6 +29,23 @@ pub fn with_drawn(sh: Shoe, n: usize) -> Shoe
 {
     let mut next = sh;
     next.drawn = sh.drawn + n;
+    next
+}
+
+// All drawn cards are discards, in the order in which they were drawn. Public for the calls that end a round: it asks that the order has the cards.
+pub fn discard_drawn(sh: Shoe) -> Shoe
+    requires { ⌜ sh .drawn ≤ 416 ⌝ }
+    ensures { λ r. ⌜ r ≡ discardDrawn sh ⌝ }
+{
+    let n = sh.drawn;
+    let order = sh.order;
+    let mut discards = sh.discards;
+    for i in 0usize..n {
+        discards[i] = order[i];
+    }
+    let mut next = sh;
+    next.discards = discards;
+    next.discarded = n;
     next
 }
 

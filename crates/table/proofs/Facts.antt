@@ -32,7 +32,7 @@ use Rattle.table.specs.Table.{seatAt, isDealt, up, someStaked, tableOrde
 use Rattle.table.specs.Money.{mostMoney, allMoney, allPrizes, allCover}
 use Rattle.table.specs.Faces.{outCards}
 use Rattle.options.specs.Permitted.{insurancePermitted}
-use Rattle.table.specs.Broken.{broken, sound, soundShoe, soundFaces, soundBank, soundMoney, seatSound, soundSeat, soundNumber, soundStake, soundInsurance, soundHands, soundPrizes, soundHand, soundOrigin, soundEnding}
+use Rattle.table.specs.Broken.{broken, sound, soundShoe, soundDiscards, soundFaces, soundBank, soundMoney, seatSound, soundSeat, soundNumber, soundStake, soundInsurance, soundHands, soundPrizes, soundHand, soundOrigin, soundEnding}
 use Rattle.table.specs.Aids.Sound.{Sound, SoundSeat, SoundHand, Insured, Playing, HoldsNothing}
 
 -- A hand.
@@ -179,35 +179,40 @@ facts-bank t twenty one f =
     simp (eq-eqb (t .bank .count) 1 (omega arith), f round))
 
 pub sound-facts : (t : Table) → sound t ≡ true → Sound t
-unfolding sound soundShoe soundFaces soundMoney
+unfolding sound soundShoe soundDiscards soundFaces soundMoney
 sound-facts t e =
-    let tests = inRange (t .options) ∷ soundShoe t ∷ soundFaces t ∷ allBelow (seatSound t) 9 ∷ soundBank t ∷ soundMoney t ∷ [] in
+    let tests = inRange (t .options) ∷ soundShoe t ∷ soundDiscards t ∷ soundFaces t ∷ allBelow (seatSound t) 9 ∷ soundBank t ∷ soundMoney t ∷ [] in
     let test = and-at tests e in
     let shoe = and-at (validOrder (t .options .decks) (tableOrder t) ∷ leb (t .shoe .drawn) (52 * t .options .decks) ∷ leb (t .shoe .discarded) 416 ∷ []) (test 1) in
-    let faces = and-at (allBelow (λ b. eqb (countOf b (outCards t)) (countOf b (tableDrawn t))) 256 ∷ eqb (length (outCards t)) (t .shoe .drawn) ∷ []) (test 2) in
-    let money = and-at (leb (allMoney t) mostMoney ∷ (not (isDealt t) || leb (allCover t) (t .tray + allPrizes t)) ∷ []) (test 5) in
+    let discards = and-at (leb (t .shoe .discarded) (t .shoe .drawn) ∷ allBelow (λ k. eqb (getD (t .shoe .discards) k 0) (getD (t .shoe .order) k 0)) (t .shoe .discarded) ∷ []) (test 2) in
+    let faces = and-at (allBelow (λ b. eqb (countOf b (outCards t)) (countOf b (tableDrawn t))) 256 ∷ eqb (length (outCards t)) (t .shoe .drawn) ∷ []) (test 3) in
+    let money = and-at (leb (allMoney t) mostMoney ∷ (not (isDealt t) || leb (allCover t) (t .tray + allPrizes t)) ∷ []) (test 6) in
     record {
       options = test 0;
       valid = shoe 0;
       drawn = leb-true _ _ (shoe 1);
       discarded = leb-true _ _ (shoe 2);
+      discarded-drawn = leb-true _ _ (discards 0);
+      discards = λ k h. eqb-true _ _ (all-below _ (t .shoe .discarded) k (discards 1) h);
       faces = λ b h. eqb-true _ _ (all-below _ 256 b (faces 0) h);
       number = eqb-true _ _ (faces 1);
-      seats = λ i h. seat-facts (t .options) (isDealt t) (up t) i (seatAt t i) (all-below (seatSound t) 9 i (test 3) h);
-      bank = bank-facts t (test 4) .0;
-      round = bank-facts t (test 4) .1;
+      seats = λ i h. seat-facts (t .options) (isDealt t) (up t) i (seatAt t i) (all-below (seatSound t) 9 i (test 4) h);
+      bank = bank-facts t (test 5) .0;
+      round = bank-facts t (test 5) .1;
       money = leb-true _ _ (money 0);
       cover = λ round. leb-true _ _ (test-where (isDealt t) _ (money 1) round);
     }
 
 pub facts-sound : (t : Table) → length (t .bank .cards) ≡ 20 → Sound t → sound t ≡ true
-unfolding sound soundShoe soundFaces soundMoney
+unfolding sound soundShoe soundDiscards soundFaces soundMoney
 facts-sound t twenty f =
     simp (
       f .options,
       f .valid,
       le-leb _ _ (f .drawn),
       le-leb _ _ (f .discarded),
+      le-leb _ _ (f .discarded-drawn),
+      below-all (λ k. eqb (getD (t .shoe .discards) k 0) (getD (t .shoe .order) k 0)) (t .shoe .discarded) (λ k h. eq-eqb _ _ (f .discards k h)),
       below-all (λ b. eqb (countOf b (outCards t)) (countOf b (tableDrawn t))) 256 (λ b h. eq-eqb _ _ (f .faces b h)),
       eq-eqb _ _ (f .number),
       below-all (seatSound t) 9 (λ i h. facts-seat (t .options) (isDealt t) (up t) i (seatAt t i) (f .seats i h)),

@@ -1,17 +1,17 @@
--- A round that ends, closed or voided: no seat keeps a stake, an insurance or a hand, and every card that lay there becomes a discard.
+-- A round that ends, closed or voided: no seat keeps a stake, an insurance or a hand, and all drawn cards are the discards.
 -- What the new purses, the new tray and the new shoe must give for the table to stay sound.
 use mathlib.Core.Path.{_≡_, refl, sym, _∙_, ap}
 use mathlib.Core.Bool.{false, true≢false}
-use mathlib.Core.List.{List, _++_, map}
+use mathlib.Core.List.{List, map}
 use Prim.Native.Nat.{ℕ, _+_, _*_, _≤_, _<_}
 use native.Mathlib.Omega.{arith}
-use lib.ListN.{length, take, getD, length-take, length-drop, length-map, List·getD-map, getD-replicate}
-use lib.Seq.{sets, take-add, length-sets}
+use lib.ListN.{length, take, getD, length-map, List·getD-map, getD-replicate}
+use lib.Seq.{sets, length-sets, length-take-le, take-take}
 use Rattle.lists.specs.Sum.{sumOf, isIt}
 use Rattle.lists.specs.Flat.{flat}
-use Rattle.lists.proofs.Sums.{sum-append, sum-map, sum-none, sum-ones}
-use Rattle.lists.proofs.Places.{getD-any}
-use Rattle.lists.proofs.Stores.{sets-taken}
+use Rattle.lists.proofs.Sums.{sum-map, sum-none, sum-ones}
+use Rattle.lists.proofs.Places.{getD-any, same-taken}
+use Rattle.lists.proofs.Stores.{sets-front}
 use Rattle.cards.specs.Hand.{emptyHand}
 use Rattle.options.specs.declared.Options.{Options}
 use Rattle.rules.specs.declared.seat_hand.SeatHand.{SeatHand}
@@ -20,12 +20,12 @@ use Rattle.table.specs.declared.Shoe.{Shoe}
 use Rattle.table.specs.declared.Table.{Table}
 use Rattle.table.specs.Seat.{clearedSeat, missingSeat, emptyPlace, missingPlace, purse, laid, prizes, seatCards}
 use Rattle.table.specs.Shoe.{discardsOf}
-use Rattle.table.specs.Table.{makeTable, seatAt, isDealt, up, handCards, bankCards, tableDrawn, tableShoe, tableDiscards}
+use Rattle.table.specs.Table.{makeTable, seatAt, isDealt, up, tableDrawn}
 use Rattle.table.specs.Money.{allMoney}
 use Rattle.table.specs.Faces.{outCards}
 use Rattle.table.specs.Shape.{Shaped, ShapedSeat}
 use Rattle.table.specs.Aids.Sound.{Sound, SoundSeat, HoldsNothing}
-use Rattle.table.proofs.Facts.{decks-416, room-discards}
+use Rattle.table.proofs.Facts.{decks-416}
 use Rattle.table.proofs.SeatChange.{sum-out}
 
 -- a seat at the end of the round, with its new purse
@@ -36,16 +36,15 @@ cleared purse-of s = clearedSeat (purse-of s)
 abbrev pub roundEnded : Table → ℕ → (Seat → ℕ) → Shoe → Table
 roundEnded t tray purse-of shoe = makeTable (t .options) tray (map (cleared purse-of) (t .seats)) emptyHand shoe
 
--- k cards more are drawn; with those that lay in hands and with the bank they are `cards`, which become discards
-pub record RoundEnd (t : Table) (tray : ℕ) (purse-of : Seat → ℕ) (shoe : Shoe) (k : ℕ) (cards : List ℕ) : Type 0 where
+-- k cards more are drawn, and all drawn cards are discards
+pub record RoundEnd (t : Table) (tray : ℕ) (purse-of : Seat → ℕ) (shoe : Shoe) (k : ℕ) : Type 0 where
   pub paid : tray + sumOf purse-of (t .seats) ≡ allMoney t
   pub nothing-stays : (s : Seat) → HoldsNothing s → purse-of s ≡ 0
   pub same-order : shoe .order ≡ t .shoe .order
   pub more-drawn : shoe .drawn ≡ t .shoe .drawn + k
   pub enough : t .shoe .drawn + k ≤ 52 * t .options .decks
-  pub more-discards : shoe .discards ≡ sets (t .shoe .discards) (t .shoe .discarded) cards
-  pub more-discarded : shoe .discarded ≡ t .shoe .discarded + length cards
-  pub cards-moved : (w : ℕ → ℕ) → sumOf w cards ≡ sumOf w (handCards t ++ bankCards t) + sumOf w (take k (tableShoe t))
+  pub all-discards : shoe .discards ≡ sets (t .shoe .discards) 0 (take (shoe .drawn) (shoe .order))
+  pub all-discarded : shoe .discarded ≡ shoe .drawn
 
 -- such a seat has nothing laid, no prize and no card
 pub cleared-laid : (purse-of : Seat → ℕ) (s : Seat) → laid (cleared purse-of s) ≡ 0
@@ -67,19 +66,23 @@ cleared-at purse-of seats i h = getD-any (map (cleared purse-of) seats) i missin
 cleared-shaped : (purse-of : Seat → ℕ) (s : Seat) → ShapedSeat (cleared purse-of s)
 cleared-shaped purse-of s = record { four-places = refl; twenty-cards = λ p h. ap (λ (x : SeatHand). length (x .hand .cards)) (getD-replicate 4 p emptyPlace missingPlace h) }
 
-module _ (t : Table) (tray : ℕ) (purse-of : Seat → ℕ) (shoe : Shoe) (k : ℕ) (cards : List ℕ) (shaped : Shaped t) (sound : Sound t) (end : RoundEnd t tray purse-of shoe k cards) where
+module _ (t : Table) (tray : ℕ) (purse-of : Seat → ℕ) (shoe : Shoe) (k : ℕ) (shaped : Shaped t) (sound : Sound t) (end : RoundEnd t tray purse-of shoe k) where
   abbrev after : Table
   after = roundEnded t tray purse-of shoe
 
-  all-drawn : length (take k (tableShoe t)) ≡ k
-  all-drawn = simp (length-take, length-drop, shaped .order) (omega (arith, decks-416 t sound))
+  all-drawn : shoe .drawn ≤ 52 * t .options .decks
+  all-drawn = omega (arith, end .more-drawn, end .enough)
 
-  room : t .shoe .discarded + length cards ≤ t .shoe .drawn + k
-  room =
-      omega (arith, end .cards-moved (λ x. 1), all-drawn, sum-ones cards, sum-ones (handCards t ++ bankCards t), sum-ones (take k (tableShoe t)), room-discards t (shaped .discards) sound)
+  -- the drawn part of the order, and the discards are it
+  drawn-length : length (take (shoe .drawn) (shoe .order)) ≡ shoe .drawn
+  drawn-length = length-take-le (shoe .drawn) (shoe .order) (omega (arith, all-drawn, decks-416 t sound, ap length (end .same-order), shaped .order))
 
-  discards-after : discardsOf shoe ≡ tableDiscards t ++ cards
-  discards-after = rw (end .more-discarded, end .more-discards) (sets-taken (t .shoe .discards) (t .shoe .discarded) cards (omega (arith, room, decks-416 t sound, end .enough, shaped .discards)))
+  discards-after : discardsOf shoe ≡ take (shoe .drawn) (shoe .order)
+  discards-after =
+      let cards = take (shoe .drawn) (shoe .order) in
+      ap (λ (n : ℕ). take n (shoe .discards)) (end .all-discarded ∙ sym drawn-length)
+      ∙ ap (take (length cards)) (end .all-discards)
+      ∙ sets-front (t .shoe .discards) cards (omega (arith, drawn-length, all-drawn, decks-416 t sound, shaped .discards))
 
   pub end-shaped : Shaped after
   end-shaped = record {
@@ -87,7 +90,7 @@ module _ (t : Table) (tray : ℕ) (purse-of : Seat → ℕ) (shoe : Shoe) (k : �
     seats = λ i h. rw (cleared-at purse-of (t .seats) i (omega arith)) (cleared-shaped purse-of (seatAt t i));
     bank = refl;
     order = ap length (end .same-order) ∙ shaped .order;
-    discards = ap length (end .more-discards) ∙ length-sets (t .shoe .discards) (t .shoe .discarded) cards ∙ shaped .discards;
+    discards = ap length (end .all-discards) ∙ length-sets (t .shoe .discards) 0 (take (shoe .drawn) (shoe .order)) ∙ shaped .discards;
   }
 
   -- a number that each such seat has 0 of comes to 0
@@ -97,8 +100,8 @@ module _ (t : Table) (tray : ℕ) (purse-of : Seat → ℕ) (shoe : Shoe) (k : �
   pub end-money : allMoney after ≡ allMoney t
   end-money = omega (arith, over-none laid (cleared-laid purse-of), sum-map purse (cleared purse-of) (t .seats), end .paid)
 
-  -- whatever is summed over cards: those that are out, and the drawn part of the order
-  out-cards : (w : ℕ → ℕ) → sumOf w (outCards after) ≡ sumOf w (outCards t) + sumOf w (take k (tableShoe t))
+  -- whatever is summed over the cards that are out: they are the drawn part of the order
+  out-cards : (w : ℕ → ℕ) → sumOf w (outCards after) ≡ sumOf w (tableDrawn after)
   unfolding sumOf
   out-cards w =
       omega (
@@ -106,13 +109,8 @@ module _ (t : Table) (tray : ℕ) (purse-of : Seat → ℕ) (shoe : Shoe) (k : �
         sum-out after w,
         over-none (λ s. sumOf w (seatCards s)) (cleared-cards w purse-of),
         ap (sumOf w) discards-after,
-        sum-append w (tableDiscards t) cards,
-        sum-append w (handCards t ++ bankCards t) (tableDiscards t),
-        end .cards-moved w,
+        ap (sumOf w) (take-take (shoe .drawn) (52 * t .options .decks) (shoe .order) all-drawn),
       )
-
-  drawn-cards : (w : ℕ → ℕ) → sumOf w (tableDrawn after) ≡ sumOf w (tableDrawn t) + sumOf w (take k (tableShoe t))
-  drawn-cards w = rw (end .more-drawn, end .same-order, take-add, sum-append)
 
   end-seat : (i : ℕ) → SoundSeat (t .options) (isDealt t) (up t) i (seatAt t i) → SoundSeat (t .options) false (up after) i (cleared purse-of (seatAt t i))
   end-seat i s =
@@ -129,10 +127,20 @@ module _ (t : Table) (tray : ℕ) (purse-of : Seat → ℕ) (shoe : Shoe) (k : �
   end-sound = record {
     options = sound .options;
     valid = rw (end .same-order) (sound .valid);
-    drawn = omega (arith, end .more-drawn, end .enough);
-    discarded = omega (arith, room, end .more-discarded, end .enough, decks-416 t sound);
-    faces = λ b h. omega (arith, out-cards (isIt b), drawn-cards (isIt b), sound .faces b h);
-    number = omega (arith, end .more-drawn, out-cards (λ x. 1), all-drawn, sum-ones (outCards after), sum-ones (outCards t), sum-ones (take k (tableShoe t)), sound .number);
+    drawn = all-drawn;
+    discarded = omega (arith, end .all-discarded, all-drawn, decks-416 t sound);
+    discarded-drawn = omega (arith, end .all-discarded);
+    discards = λ i h. same-taken (shoe .discarded) (shoe .discards) (shoe .order) 0 (discards-after ∙ ap (λ (n : ℕ). take n (shoe .order)) (sym (end .all-discarded))) i h;
+    faces = λ b h. out-cards (isIt b);
+    number =
+        omega (
+          arith,
+          out-cards (λ x. 1),
+          sum-ones (outCards after),
+          sum-ones (tableDrawn after),
+          ap length (take-take (shoe .drawn) (52 * t .options .decks) (shoe .order) all-drawn),
+          drawn-length,
+        );
     seats = λ i h. rw (cleared-at purse-of (t .seats) i (omega arith)) (end-seat i (sound .seats i h));
     bank = omega arith;
     round = λ dealt. absurd (true≢false (sym dealt));

@@ -86,6 +86,8 @@ module _ (t : Table) (j tray : ℕ) (s : Seat) (shoe : Shoe) (k came went : ℕ)
     valid = rw (ch .same-order) (sound .valid);
     drawn = omega arith;
     discarded = omega arith;
+    discarded-drawn = omega arith;
+    discards = λ k h. rw (ch .same-discards, ch .same-order) (sound .discards k (omega arith));
     faces = λ b h. omega (arith, out-cards (isIt b), drawn-cards (isIt b), sound .faces b h);
     number = omega (arith, out-cards (λ x. 1), all-drawn, sum-ones (outCards (changed t j tray s shoe)), sum-ones (outCards t), sum-ones (take k (tableShoe t)));
     seats = λ i h. holds-set (SoundSeat (t .options) (isDealt t) (up t)) (t .seats) j i s missingSeat here (ch .sound-seat) (sound .seats i h);

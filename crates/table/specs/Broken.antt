@@ -86,6 +86,10 @@ seatSound t i = soundSeat (t .options) (isDealt t) (up t) i (seatAt t i)
 unfoldable pub soundShoe : Table → Bool
 soundShoe t = validOrder (t .options .decks) (tableOrder t) && leb (t .shoe .drawn) (52 * t .options .decks) && leb (t .shoe .discarded) 416
 
+-- The discards are the first drawn cards, in the order in which they were drawn.
+unfoldable pub soundDiscards : Table → Bool
+soundDiscards t = leb (t .shoe .discarded) (t .shoe .drawn) && allBelow (λ k. eqb (getD (t .shoe .discards) k 0) (getD (t .shoe .order) k 0)) (t .shoe .discarded)
+
 -- Of every byte value, hands, bank and discards hold as many cards as the drawn part of the order, and as many in all.
 unfoldable pub soundFaces : Table → Bool
 soundFaces t = allBelow (λ b. eqb (countOf b (outCards t)) (countOf b (tableDrawn t))) 256 && eqb (length (outCards t)) (t .shoe .drawn)
@@ -100,7 +104,7 @@ soundMoney t = leb (allMoney t) mostMoney && (not (isDealt t) || leb (allCover t
 
 unfoldable pub sound : Table → Bool
 sound t =
-    inRange (t .options) && soundShoe t && soundFaces t && allBelow (seatSound t) 9 && soundBank t && soundMoney t
+    inRange (t .options) && soundShoe t && soundDiscards t && soundFaces t && allBelow (seatSound t) 9 && soundBank t && soundMoney t
 
 abbrev pub broken : Table → Bool
 broken t = not (sound t)

@@ -49,6 +49,10 @@ isFresh sh = eqb (sh .drawn) 0
 abbrev pub withDrawn : Shoe → ℕ → Shoe
 withDrawn sh n = makeShoe (sh .order) (sh .drawn + n) (sh .discards) (sh .discarded)
 
+-- All drawn cards are discards, in the order in which they were drawn: the end of a round.
+abbrev pub discardDrawn : Shoe → Shoe
+discardDrawn sh = makeShoe (sh .order) (sh .drawn) (sets (sh .discards) 0 (take (sh .drawn) (sh .order))) (sh .drawn)
+
 -- Cards become discards, behind the others in their order.
 abbrev pub discard : Shoe → List ℕ → Shoe
 discard sh cards = makeShoe (sh .order) (sh .drawn) (sets (sh .discards) (sh .discarded) cards) (sh .discarded + length cards)

@@ -1,8 +1,8 @@
 -- The tests are the definition's, in its order.
 use mathlib.Core.Path.{sym, _∙_}
-use mathlib.Core.Bool.{and-eq-true-iff}
+use mathlib.Core.Bool.{_&&_, and-eq-true-iff}
 use borrow.Author.Needs.{needs}
-use Rattle.table.specs.Broken.{soundShoe, soundFaces, sound}
+use Rattle.table.specs.Broken.{soundShoe, soundDiscards, soundFaces, sound}
 use Rattle.broken.proofs.sound.Statement.{statement}
 use Rattle.broken.proofs.sound.Tie as tie
 
@@ -19,7 +19,7 @@ returns : tie.Need-returns
 unfolding sound
 returns c =
     let t = c .before .before .before .before .before .before .args .t in
-    let cards = and-eq-true-iff (soundShoe t) (soundFaces t) .0 (sym (c .before .before .cards-conserved .ensures) ∙ c .before .if2 .taken) in
+    let cards = and-eq-true-iff (soundShoe t && soundDiscards t) (soundFaces t) .0 (sym (c .before .before .cards-conserved .ensures) ∙ c .before .if2 .taken) in
     simp (sym (c .before .before .before .before .in-range .ensures) ∙ c .before .before .before .if1 .taken, cards .0, cards .1) (c .seats-sound .ensures)
 
 returns-2 : tie.Need-returns-2

@@ -1,5 +1,5 @@
--- The cards that are left, counted once: beside the drawn ones they decide whether the order is valid, and of a valid order, beside as many cards
--- that are out, whether these are the drawn ones.
+-- The cards that are left and the discards, counted once: beside the other drawn ones they decide whether the order is valid, and of a valid order,
+-- beside the cards in hands and with the bank, whether as many cards that are out are the drawn ones.
 use mathlib.Core.Path.{_≡_, refl, sym, ap, _∙_}
 use mathlib.Core.Bool.{Bool, true, false}
 use mathlib.Core.List.{List, _++_}
@@ -8,15 +8,17 @@ use native.Mathlib.Omega.{arith}
 use borrow.Author.Tests.{eqb-true, eq-eqb, lt-ltb}
 use lib.Dec.{eqb}
 use lib.ListN.{length, getD, take, drop, length-append, length-take, length-drop, take-append-drop}
-use lib.Seq.{take-all}
+use lib.Seq.{take-all, take-take}
 use Rattle.lists.specs.Sum.{countOf, isIt}
 use Rattle.lists.specs.Below.{allBelow}
 use Rattle.lists.proofs.Sums.{sum-append}
 use Rattle.lists.proofs.Below.{all-below, below-all}
-use Rattle.lists.proofs.Parts.{part-of-take}
+use Rattle.lists.proofs.Parts.{part-of-take, sum-more}
 use Rattle.card_count.specs.Aids.Counters.{noCounts, countedAll, Room}
 use Rattle.card_count.proofs.counters.Counts.{counted-append, room-after, room-zeros}
-use Rattle.table.specs.Shoe.{validOrder}
+use Rattle.card_count.specs.Aids.Left.{Left, firstOf}
+use Rattle.table.specs.declared.Shoe.{Shoe}
+use Rattle.table.specs.Shoe.{validOrder, orderOf, leftOf}
 use Rattle.card_count.proofs.valid_order.Orders.{faces-valid, faces-decide, valid-count}
 
 -- two tests are one where each passes with the other
@@ -29,9 +31,24 @@ both-ways false false to from = refl
 pub left-part : (n k : ℕ) (xs : List ℕ) → n ≤ k → take (k - n) (drop n xs) ≡ drop n (take k xs)
 left-part n k xs h = sym (part-of-take (k - n) n k xs (omega arith)) ∙ take-all (k - n) (drop n (take k xs)) (omega (arith, length-drop n (take k xs), length-take k xs))
 
--- counters of at most 416 cards have room for all cards of a table
-pub room-left : (of xs : List ℕ) (n : ℕ) → of ≡ countedAll noCounts xs → length xs ≤ 416 → n ≤ 1156 → Room of n
+-- counters of at most 832 cards have room for all cards of a table
+pub room-left : (of xs : List ℕ) (n : ℕ) → of ≡ countedAll noCounts xs → length xs ≤ 832 → n ≤ 1156 → Room of n
 room-left of xs n e few h = rw e (room-after noCounts xs 65535 n (room-zeros 65535 (omega arith)) (omega arith))
+
+pub room-kept : (of : List ℕ) (decks : ℕ) (sh : Shoe) (n : ℕ) → Left of decks sh → n ≤ 1156 → Room of n
+room-kept of decks sh n kept most =
+    room-left of (leftOf decks sh ++ firstOf sh) n (kept .counters)
+    (omega (
+      arith,
+      length-append (leftOf decks sh) (firstOf sh),
+      length-drop (sh .drawn) (orderOf decks sh),
+      length-take (52 * decks) (sh .order),
+      length-take (sh .discarded) (sh .order),
+      kept .within .order,
+      kept .within .drawn,
+      kept .within .discarded,
+    ))
+    most
 
 -- a list taken apart and put together the other way round
 count-swapped : (b n : ℕ) (xs : List ℕ) → countOf b (drop n xs ++ take n xs) ≡ countOf b xs
@@ -39,13 +56,33 @@ count-swapped b n xs =
     let apart : countOf b (take n xs ++ drop n xs) ≡ countOf b xs = ap (countOf b) (take-append-drop n xs) in
     omega (arith, apart, sum-append (isIt b) (take n xs) (drop n xs), sum-append (isIt b) (drop n xs) (take n xs))
 
-module _ (decks n : ℕ) (order left : List ℕ) (full : length order ≡ 52 * decks) (counters : left ≡ countedAll noCounts (drop n order)) where
-  beside : (cards of : List ℕ) → of ≡ countedAll left cards → of ≡ countedAll noCounts (drop n order ++ cards)
-  beside cards of e = e ∙ ap (λ (l : List ℕ). countedAll l cards) counters ∙ sym (counted-append noCounts (drop n order) cards)
+-- of the first n cards, d are counted with those behind, and the rest now
+pub count-rest : (b d n k : ℕ) (xs : List ℕ) → d ≤ n → n ≤ k
+    → countOf b (drop n (take k xs) ++ take d xs) + countOf b (take (n - d) (drop d xs)) ≡ countOf b (take k xs)
+count-rest b d n k xs few within =
+    let all : d + (n - d) ≡ n = omega arith in
+    omega (
+      arith,
+      sum-append (isIt b) (drop n (take k xs)) (take d xs),
+      sum-more (isIt b) xs d (n - d),
+      ap (λ (m : ℕ). countOf b (take m xs)) all,
+      ap (countOf b) (take-take n k xs within),
+      sum-append (isIt b) (drop n (take k xs)) (take n (take k xs)),
+      count-swapped b n (take k xs),
+    )
 
-  -- the drawn cards beside those that are left
-  pub drawn-decide : (of : List ℕ) → of ≡ countedAll left (take n order) → allBelow (λ face. eqb (getD of face 0) decks) 52 ≡ validOrder decks order
-  drawn-decide of e = faces-decide decks order (drop n order ++ take n order) of full (beside (take n order) of e) (λ b. count-swapped b n order)
+-- the discards, which are the first cards, are counted with those that are left
+pub count-first : (b : ℕ) (left first on discards : List ℕ) → discards ≡ first → countOf b (left ++ first) + countOf b on ≡ countOf b left + countOf b (on ++ discards)
+count-first b left first on discards e = omega (arith, sum-append (isIt b) left first, sum-append (isIt b) on discards, ap (countOf b) e)
+
+module _ (decks n : ℕ) (order kept left : List ℕ) (full : length order ≡ 52 * decks) (counters : left ≡ countedAll noCounts kept) where
+  beside : (cards of : List ℕ) → of ≡ countedAll left cards → of ≡ countedAll noCounts (kept ++ cards)
+  beside cards of e = e ∙ ap (λ (l : List ℕ). countedAll l cards) counters ∙ sym (counted-append noCounts kept cards)
+
+  -- the other drawn cards beside those that are kept
+  pub drawn-decide : (rest of : List ℕ) → ((b : ℕ) → countOf b kept + countOf b rest ≡ countOf b order) → of ≡ countedAll left rest
+      → allBelow (λ face. eqb (getD of face 0) decks) 52 ≡ validOrder decks order
+  drawn-decide rest of same e = faces-decide decks order (kept ++ rest) of full (beside rest of e) (λ b. sum-append (isIt b) kept rest ∙ same b)
 
   -- as many cards that are out beside those that are left
   module _ (valid : validOrder decks order ≡ true) (out : List ℕ) (many : length out ≡ n) (within : n ≤ 52 * decks) where
@@ -73,8 +110,8 @@ module _ (decks n : ℕ) (order left : List ℕ) (full : length order ≡ 52 * d
             let valued : countOf face order ≡ decks = valid-count decks order valid face ∙ rw (lt-ltb face 52 h) in
             omega (arith, apart face)
 
-    pub out-decide : (of : List ℕ) → of ≡ countedAll left out
+    pub out-decide : (on of : List ℕ) → ((b : ℕ) → countOf b kept + countOf b on ≡ countOf b (drop n order) + countOf b out) → of ≡ countedAll left on
         → allBelow (λ face. eqb (getD of face 0) decks) 52 ≡ allBelow (λ b. eqb (countOf b out) (countOf b (take n order))) 256
-    out-decide of e =
-        faces-decide decks (drop n order ++ out) (drop n order ++ out) of again (beside out of e) (λ b. refl)
+    out-decide on of same e =
+        faces-decide decks (drop n order ++ out) (kept ++ on) of again (beside on of e) (λ b. sum-append (isIt b) kept on ∙ same b ∙ sym (sum-append (isIt b) (drop n order) out))
         ∙ both-ways (validOrder decks (drop n order ++ out)) (allBelow (λ b. eqb (countOf b out) (countOf b (take n order))) 256) to from

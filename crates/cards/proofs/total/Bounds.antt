@@ -8,18 +8,15 @@ use native.Mathlib.Omega.{arith}
 use lib.Dec.{leb}
 use lib.ListN.{length, length-append}
 use borrow.Author.Tests.{lt-ltb, le-ltb, le-leb, ltb-true}
-use Rattle.lists.proofs.Sums.{sum-most, sum-least, sum-least-none, sum-snoc}
+use Rattle.lists.proofs.Sums.{sum-least, sum-least-none, sum-snoc}
 use Rattle.cards.specs.Card.{isAce}
 use Rattle.cards.specs.Points.{pointsOf}
-use Rattle.cards.proofs.card.PointsLaws.{points-most, points-least, points-no-ace}
+use Rattle.cards.proofs.card.PointsLaws.{points-least, points-no-ace}
 use Rattle.cards.specs.Length.{couldBePlayed}
 use Rattle.cards.specs.Total.{lowSum, hasAce, total}
 
 pub low-sum-least : (cards : List ℕ) → length cards ≤ lowSum cards
 low-sum-least cards = omega (arith, sum-least pointsOf 1 points-least cards)
-
-pub low-sum-most : (cards : List ℕ) → lowSum cards ≤ 10 * length cards
-low-sum-most cards = sum-most pointsOf 10 points-most cards
 
 pub low-sum-no-ace : (cards : List ℕ) → hasAce cards ≡ false → 2 * length cards ≤ lowSum cards
 low-sum-no-ace cards none = sum-least-none pointsOf 2 isAce points-no-ace cards none

@@ -1,21 +1,21 @@
--- On a sound table a void can give all back: the tray does not pass the limit, and there is room for every card.
+-- On a sound table a void can give all back: the tray does not pass the limit, and at most as many cards are drawn as there is room for.
 use mathlib.Core.Path.{_≡_}
-use mathlib.Core.List.{map, _++_}
+use mathlib.Core.List.{map}
 use Prim.Native.Nat.{ℕ, _+_, _≤_}
 use native.Mathlib.Omega.{arith}
-use lib.ListN.{length, length-append}
+use lib.ListN.{length}
 use Rattle.lists.proofs.Sums.{sum-plus, sum-at-most}
 use Rattle.cards.specs.declared.hand.Hand.{Hand}
 use Rattle.cards.specs.Hand.{emptyHand}
 use Rattle.table.specs.declared.Shoe.{Shoe}
 use Rattle.table.specs.declared.Table.{Table}
 use Rattle.table.specs.Seat.{missingSeat, purse, laid, prizes}
-use Rattle.table.specs.Shoe.{discard}
-use Rattle.table.specs.Table.{makeTable, handCards, bankCards}
+use Rattle.table.specs.Shoe.{discardDrawn}
+use Rattle.table.specs.Table.{makeTable}
 use Rattle.table.specs.Aids.WithSeats.{withSeats}
 use Rattle.table.specs.Money.{mostMoney, allPrizes}
 use Rattle.table.specs.Aids.Sound.{Sound}
-use Rattle.table.proofs.Facts.{room-discards, decks-416}
+use Rattle.table.proofs.Facts.{decks-416}
 use Rattle.close_spec.specs.Void.{voidEffect}
 use Rattle.close.specs.declared.seats.Ending.the-variants.{Void}
 use Rattle.close.specs.Aids.Ended.{endedSeat}
@@ -30,15 +30,15 @@ module _ (t : Table) (sound : Sound t) where
         sound .money,
       )
 
-  pub room-back : length (t .shoe .discards) ≡ 416 → t .shoe .discarded + (length (handCards t) + length (bankCards t)) ≤ 416
-  room-back full = omega (arith, room-discards t full sound, length-append (handCards t) (bankCards t), sound .drawn, decks-416 t sound)
+  pub drawn-fits : t .shoe .drawn ≤ 416
+  drawn-fits = omega (arith, sound .drawn, decks-416 t sound)
 
 -- the effect, part by part
 pub void-is : (t u : Table) (won : ℕ) (bank : Hand) (shoe : Shoe)
     → u ≡ withSeats t (map (endedSeat (t .options) Void) (t .seats))
     → won ≡ allPrizes t
     → bank ≡ emptyHand
-    → shoe ≡ discard (t .shoe) (handCards t ++ bankCards t)
+    → shoe ≡ discardDrawn (t .shoe)
     → makeTable (u .options) (t .tray + won) (u .seats) bank shoe ≡ voidEffect t
 unfolding voidEffect
 void-is t u won bank shoe seats prizes none cards = rw (seats, prizes, none, cards)

@@ -2,7 +2,6 @@
 use mathlib.Core.Path.{_≡_, _∙_, ap, ap₂}
 use native.Mathlib.Omega.{arith}
 use borrow.Author.Needs.{needs}
-use lib.ListN.{length, length-map}
 use Rattle.cards.specs.declared.hand.Hand.{Hand}
 use Rattle.cards.specs.Hand.{withCard}
 use Rattle.table.specs.declared.Shoe.{Shoe}
@@ -48,8 +47,7 @@ with-card-requires c κs = search needs
 burn-requires : tie.Need-burn-requires
 burn-requires c κs =
     let start = c .before .before .before .before .before .before .before .before .before .before .before in
-    let full : length (start .args .t .shoe .discards) ≡ 416 = simp length-map at (start .good .0 .1 .1 .1 .1 .1 .1 .0 .1 .1 .1 .1 .0 .1 .0 .1) in
-    let room = deal-room (start .args .t) full (start .pre) in
+    let room = deal-room (start .args .t) (start .pre) in
     let burnt = c .before .before .before .before .before .before .before .burn-at-deal .ensures .0 in
     (omega arith, omega arith, omega arith)
 
@@ -59,8 +57,7 @@ deal-takes-requires c κs = search needs
 with-drawn-requires : tie.Need-with-drawn-requires
 with-drawn-requires c κs =
     let start = c .before .before .before .before .before .before .before .before .before .before .before .before .before in
-    let full : length (start .args .t .shoe .discards) ≡ 416 = simp length-map at (start .good .0 .1 .1 .1 .1 .1 .1 .0 .1 .1 .1 .1 .0 .1 .0 .1) in
-    let room = deal-room (start .args .t) full (start .pre) in
+    let room = deal-room (start .args .t) (start .pre) in
     let same : c .before .burn .result .drawn ≡ start .args .t .shoe .drawn = ap (λ (sh : Shoe). sh .drawn) (c .before .burn .ensures) in
     omega (arith, c .deal-takes .ensures)
 

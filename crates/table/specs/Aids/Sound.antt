@@ -64,6 +64,8 @@ pub record Sound (t : Table) : Type 0 where
   pub valid : validOrder (t .options .decks) (tableOrder t) ≡ true
   pub drawn : t .shoe .drawn ≤ 52 * t .options .decks
   pub discarded : t .shoe .discarded ≤ 416
+  pub discarded-drawn : t .shoe .discarded ≤ t .shoe .drawn
+  pub discards : (k : ℕ) → k < t .shoe .discarded → getD (t .shoe .discards) k 0 ≡ getD (t .shoe .order) k 0
   pub faces : (b : ℕ) → b < 256 → countOf b (outCards t) ≡ countOf b (tableDrawn t)
   pub number : length (outCards t) ≡ t .shoe .drawn
   pub seats : (i : ℕ) → i < 9 → SoundSeat (t .options) (isDealt t) (up t) i (seatAt t i)

@@ -1,15 +1,28 @@
--- Each test is one of the definition's; an order that the array has no room for is not valid.
+-- Each test is one of the definition's; an order that the array has no room for is not valid, and the discards of a shoe have room where they are drawn.
 use mathlib.Core.Path.{_≡_, sym, _∙_}
-use mathlib.Core.Bool.{and-false}
+use mathlib.Core.Bool.{true, and-false}
 use Prim.Native.Nat.{_*_}
 use native.Mathlib.Omega.{arith}
 use borrow.Author.Needs.{needs}
-use borrow.Author.Tests.{le-leb, lt-leb}
-use lib.ListN.{length}
-use Rattle.table.specs.Broken.{soundShoe}
+use borrow.Author.Tests.{eqb-true, le-leb, lt-leb, not-true, not-false}
+use lib.Dec.{eqb}
+use lib.ListN.{length, getD, length-map}
+use Rattle.lists.specs.Below.{allBelow}
+use Rattle.lists.proofs.Below.{all-below}
+use Rattle.lists.proofs.Places.{taken-same}
+use Rattle.table.specs.declared.Shoe.{Shoe}
+use Rattle.table.specs.Broken.{soundShoe, soundDiscards}
+use Rattle.table.specs.Shoe.{discardsOf}
+use Rattle.card_count.specs.Aids.Left.{firstOf}
 use Rattle.card_count.proofs.valid_order.Orders.{too-short}
 use Rattle.card_count.proofs.conserved.cards_conserved.Statement.{statement}
 use Rattle.card_count.proofs.conserved.cards_conserved.Tie as tie
+
+-- what the comparison of the discards gives
+discards-are : (sh : Shoe) → length (sh .discards) ≡ length (sh .order) → allBelow (λ k. eqb (getD (sh .discards) k 0) (getD (sh .order) k 0)) (sh .discarded) ≡ true → discardsOf sh ≡ firstOf sh
+discards-are sh same e =
+    taken-same (sh .discarded) (sh .discards) (sh .order) 0
+    (λ k h. eqb-true _ _ (all-below (λ i. eqb (getD (sh .discards) i 0) (getD (sh .order) i 0)) (sh .discarded) k e h)) same
 
 cast-all : tie.Need-cast-all
 cast-all c = search needs
@@ -31,10 +44,17 @@ returns-2 c =
     simp (lt-leb (t .shoe .drawn) (52 * t .options .decks) (omega arith), and-false)
 
 returns-3 : tie.Need-returns-3
-unfolding soundShoe
+unfolding soundDiscards
 returns-3 c =
     let t = c .before .before .before .before .before .before .before .args .t in
-    simp (lt-leb (t .shoe .discarded) 416 (omega arith), and-false)
+    simp (lt-leb (t .shoe .discarded) (t .shoe .drawn) (omega arith), and-false)
+
+discards-first-requires : tie.Need-discards-first-requires
+discards-first-requires c κs = search needs
+
+returns-4 : tie.Need-returns-4
+unfolding soundDiscards
+returns-4 c = simp (sym (c .before .discards-first .ensures) ∙ not-true (c .before .discards-first .result) (c .if4 .taken), and-false)
 
 left-counts-requires : tie.Need-left-counts-requires
 left-counts-requires c κs = search needs
@@ -44,22 +64,37 @@ order-valid-requires c κs = search needs
 
 out-is-drawn-requires : tie.Need-out-is-drawn-requires
 out-is-drawn-requires c κs =
-    record { left = c .before .before .left-counts .ensures; valid = sym (c .before .order-valid .ensures) ∙ c .if4 .taken }
+    let compared = c .before .before .before in
+    let start = compared .before .before .before .before .before .before .before .before .before in
+    let sh = start .args .t .shoe in
+    let order : length (sh .order) ≡ 416 = simp length-map at (start .good .0 .1 .1 .1 .1 .1 .1 .0 .1 .1 .0 .1 .0 .1) in
+    let discards : length (sh .discards) ≡ 416 = simp length-map at (start .good .0 .1 .1 .1 .1 .1 .1 .0 .1 .1 .1 .1 .0 .1 .0 .1) in
+    record {
+      left = c .before .before .left-counts .ensures;
+      valid = sym (c .before .order-valid .ensures) ∙ c .if5 .taken;
+      discards = discards-are sh (discards ∙ sym order) (sym (compared .before .discards-first .ensures) ∙ not-false (compared .before .discards-first .result) (compared .if4 .left));
+    }
 
-returns-4 : tie.Need-returns-4
-unfolding soundShoe
-returns-4 c =
-    let t = c .before .before .before .before .before .before .before .before .before .before .before .args .t in
+returns-5 : tie.Need-returns-5
+unfolding soundShoe soundDiscards
+returns-5 c =
+    let counted = c .before .before .before in
+    let compared = counted .before in
+    let sh = compared .before .before .before .before .before .before .before .before .before .args .t .shoe in
+    let decks = compared .before .before .before .before .before .before .before .before .before .args .t .options .decks in
+    let within = counted .left-counts .ensures .within in
     simp (
-      sym (c .before .before .order-valid .ensures) ∙ c .before .if4 .taken,
-      le-leb (t .shoe .drawn) (52 * t .options .decks) (c .before .before .before .left-counts .ensures .within .drawn),
-      le-leb (t .shoe .discarded) 416 (omega (arith, c .before .before .before .before .if3 .left)),
+      sym (c .before .before .order-valid .ensures) ∙ c .before .if5 .taken,
+      le-leb (sh .drawn) (52 * decks) (within .drawn),
+      le-leb (sh .discarded) 416 (omega (arith, within .order, within .drawn, within .discarded)),
+      le-leb (sh .discarded) (sh .drawn) (within .discarded),
+      sym (compared .before .discards-first .ensures) ∙ not-false (compared .before .discards-first .result) (compared .if4 .left),
     )
     (c .out-is-drawn .ensures)
 
-returns-5 : tie.Need-returns-5
+returns-6 : tie.Need-returns-6
 unfolding soundShoe
-returns-5 c = simp (sym (c .before .order-valid .ensures) ∙ c .if4 .left, c .if4 .left)
+returns-6 c = simp (sym (c .before .order-valid .ensures) ∙ c .if5 .left, c .if5 .left)
 
 pub cards-conserved-spec : {M : Type 1} → statement M
 cards-conserved-spec =
@@ -70,8 +105,10 @@ cards-conserved-spec =
     returns
     returns-2
     returns-3
+    discards-first-requires
+    returns-4
     left-counts-requires
     order-valid-requires
     out-is-drawn-requires
-    returns-4
-    returns-5)
+    returns-5
+    returns-6)

@@ -1,13 +1,16 @@
--- The part of the array behind the drawn cards, up to the end of the order, is what is left.
-use mathlib.Core.Path.{_≡_, ap, _∙_}
-use Prim.Native.Nat.{_-_, _*_, _≤_}
+-- The part of the array behind the drawn cards, up to the end of the order, is what is left; the first part is counted behind it.
+use mathlib.Core.Path.{_≡_, sym, ap, _∙_}
+use mathlib.Core.List.{List}
+use Prim.Native.Nat.{ℕ, _-_, _*_, _≤_}
 use native.Mathlib.Omega.{arith}
 use borrow.Author.Needs.{needs}
 use lib.ListN.{length, take, drop, length-take}
 use lib.Seq.{length-take-le}
+use Rattle.table.specs.Shoe.{leftOf}
 use Rattle.card_count.specs.Aids.Counters.{countedAll, noCounts}
-use Rattle.card_count.proofs.counters.Counts.{room-zeros}
-use Rattle.card_count.proofs.conserved.Beside.{left-part}
+use Rattle.card_count.specs.Aids.Left.{firstOf}
+use Rattle.card_count.proofs.counters.Counts.{counted-append, room-zeros}
+use Rattle.card_count.proofs.conserved.Beside.{left-part, room-left}
 use Rattle.card_count.proofs.conserved.left_counts.Statement.{statement}
 use Rattle.card_count.proofs.conserved.left_counts.Tie as tie
 
@@ -35,17 +38,41 @@ count-requires c κs =
     = omega (arith, length-take n (drop (start .args .sh .drawn) (start .args .sh .order)), start .pre .order) in
     room-zeros _ few
 
+array-share-prefix-order : tie.Need-array-share-prefix-order
+array-share-prefix-order c =
+    let start = c .before .before .before .before .before .before in
+    let full : length (start .args .sh .order) ≡ 416 = search needs in
+    omega (arith, start .pre .order, start .pre .drawn, start .pre .discarded)
+
+slice-aggregate-count : tie.Need-slice-aggregate-count
+slice-aggregate-count c =
+    let start = c .before .before .before .before .before .before .before in
+    let sh = start .args .sh in
+    let full : length (sh .order) ≡ 416 = search needs in
+    sym (length-take-le (sh .discarded) (sh .order) (omega (arith, start .pre .order, start .pre .drawn, start .pre .discarded)))
+
+count-requires-2 : tie.Need-count-requires-2
+unfolding noCounts
+count-requires-2 c κs =
+    let start = c .before .before .before .before .before .before .before in
+    let sh = start .args .sh in
+    let n = 52 * start .args .decks - sh .drawn in
+    let few : length (take n (drop (sh .drawn) (sh .order))) ≤ 832 = omega (arith, length-take n (drop (sh .drawn) (sh .order)), start .pre .order) in
+    let most : length (firstOf sh) ≤ 1156 = omega (arith, length-take (sh .discarded) (sh .order), start .pre .order, start .pre .drawn, start .pre .discarded) in
+    room-left _ (take n (drop (sh .drawn) (sh .order))) _ (c .before .before .count .ensures) few most
+
 returns : tie.Need-returns
 unfolding noCounts
 returns c =
-    let start = c .before .before .before .before .before in
+    let start = c .before .before .before .before .before .before .before .before in
     let sh = start .args .sh in
-    let all = 52 * start .args .decks in
+    let decks = start .args .decks in
     let full : length (sh .order) ≡ 416 = search needs in
+    let left = c .before .before .before .count .ensures ∙ ap (countedAll noCounts) (left-part (sh .drawn) (52 * decks) (sh .order) (start .pre .drawn)) in
     record {
       within = start .pre;
-      whole = length-take-le all (sh .order) (omega (arith, start .pre .order));
-      counters = c .count .ensures ∙ ap (countedAll noCounts) (left-part (sh .drawn) all (sh .order) (start .pre .drawn));
+      whole = length-take-le (52 * decks) (sh .order) (omega (arith, start .pre .order));
+      counters = c .count2 .ensures ∙ ap (λ (of : List ℕ). countedAll of (firstOf sh)) left ∙ sym (counted-append noCounts (leftOf decks sh) (firstOf sh));
     }
 
 pub left-counts-spec : {M : Type 1} → statement M
@@ -57,4 +84,7 @@ left-counts-spec =
     part-count-start
     part-count-end
     count-requires
+    array-share-prefix-order
+    slice-aggregate-count
+    count-requires-2
     returns)

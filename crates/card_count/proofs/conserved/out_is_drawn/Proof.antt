@@ -1,32 +1,50 @@
--- Their number is compared first; as many as were drawn are the drawn ones exactly if beside those that are left each face is there.
-use mathlib.Core.Path.{_≡_, _∙_}
+-- Their number is compared first; as many as were drawn are the drawn ones exactly if beside those that are counted each face is there.
+use mathlib.Core.Path.{_≡_, _∙_, ap}
 use mathlib.Core.Bool.{and-true, and-false}
-use Prim.Native.Nat.{_*_, _≤_}
+use mathlib.Core.List.{List, _++_}
+use Prim.Native.Nat.{ℕ, _+_, _*_}
 use native.Mathlib.Omega.{arith}
 use borrow.Author.Needs.{needs}
 use borrow.Author.Tests.{eq-eqb, ne-eqb}
-use lib.ListN.{length, length-take, length-drop}
+use lib.ListN.{length, length-append, length-take}
+use Rattle.table.specs.declared.Table.{Table}
 use Rattle.table.specs.Shoe.{leftOf, orderOf}
+use Rattle.table.specs.Table.{handCards, bankCards, tableDiscards}
 use Rattle.table.specs.Faces.{outCards}
 use Rattle.table.specs.Broken.{soundFaces}
-use Rattle.card_count.proofs.conserved.Beside.{room-left, out-decide}
+use Rattle.card_count.specs.Aids.Left.{firstOf, OfValid}
+use Rattle.card_count.proofs.conserved.Beside.{room-kept, count-first, out-decide}
 use Rattle.card_count.proofs.conserved.out_is_drawn.Statement.{statement}
 use Rattle.card_count.proofs.conserved.out_is_drawn.Tie as tie
 
-count-out-requires : tie.Need-count-out-requires
-count-out-requires c κs =
+-- the cards that are out are those in play and the discards
+out-many : {of : List ℕ} (t : Table) → OfValid of t → length (outCards t) ≡ length (handCards t ++ bankCards t) + t .shoe .discarded
+out-many t ok =
+    omega (
+      arith,
+      length-append (handCards t ++ bankCards t) (tableDiscards t),
+      ap length (ok .discards),
+      ok .left .whole,
+      length-take (52 * t .options .decks) (t .shoe .order),
+      length-take (t .shoe .discarded) (t .shoe .order),
+      ok .left .within .drawn,
+      ok .left .within .discarded,
+    )
+
+count-in-play-requires : tie.Need-count-in-play-requires
+count-in-play-requires c κs =
     let start = c .before .before .before in
-    let decks = start .args .t .options .decks in
-    let sh = start .args .t .shoe in
-    let few : length (leftOf decks sh) ≤ 416
-    = omega (arith, length-drop (sh .drawn) (orderOf decks sh), length-take (52 * decks) (sh .order), start .pre .left .within .order) in
-    room-left (start .args .left) (leftOf decks sh) 1156 (start .pre .left .counters) few (omega arith)
+    room-kept (start .args .left) (start .args .t .options .decks) (start .args .t .shoe) 740 (start .pre .left) (omega arith)
+
+add-if1 : tie.Need-add-if1
+add-if1 c = search needs
 
 returns : tie.Need-returns
 unfolding soundFaces
 returns c =
-    let t = c .before .before .before .before .before .before .args .t in
-    simp (ne-eqb (length (outCards t)) (t .shoe .drawn) (λ e. omega arith), and-false)
+    let start = c .before .before .before .before .before .before .before in
+    let t = start .args .t in
+    simp (ne-eqb (length (outCards t)) (t .shoe .drawn) (λ e. omega (arith, out-many t (start .pre))), and-false)
 
 cast-each-face : tie.Need-cast-each-face
 cast-each-face c = search needs
@@ -37,14 +55,19 @@ each-face-requires c κs = search needs
 returns-2 : tie.Need-returns-2
 unfolding soundFaces
 returns-2 c =
-    let start = c .before .before .before .before .before .before .before .before .before in
+    let start = c .before .before .before .before .before .before .before .before .before .before in
     let t = start .args .t in
     let decks = t .options .decks in
-    let many : length (outCards t) ≡ t .shoe .drawn = omega arith in
+    let kept = start .pre .left in
+    let many : length (outCards t) ≡ t .shoe .drawn = omega (arith, out-many t (start .pre)) in
     rw (eq-eqb (length (outCards t)) (t .shoe .drawn) many, and-true)
     (c .each-face .ensures
-    ∙ out-decide decks (t .shoe .drawn) (orderOf decks (t .shoe)) (start .args .left) (start .pre .left .whole) (start .pre .left .counters) (start .pre .valid) (outCards t) many (start .pre .left .within .drawn) _ (c .before .before .before .before .before .count-out .ensures .counters))
+    ∙ out-decide decks (t .shoe .drawn) (orderOf decks (t .shoe)) (leftOf decks (t .shoe) ++ firstOf (t .shoe)) (start .args .left) (kept .whole) (kept .counters) (start .pre .valid) (outCards t) many (kept .within .drawn)
+    (handCards t ++ bankCards t) _
+    (λ b. count-first b (leftOf decks (t .shoe)) (firstOf (t .shoe)) (handCards t ++ bankCards t) (tableDiscards t) (start .pre .discards))
+    (c .before .before .before .before .before .before .count-in-play .ensures .counters))
 
 pub out-is-drawn-spec : {M : Type 1} → statement M
 out-is-drawn-spec =
-    tie.close (tie.spec count-out-requires returns cast-each-face each-face-requires returns-2)
+    tie.close
+    (tie.spec count-in-play-requires add-if1 returns cast-each-face each-face-requires returns-2)

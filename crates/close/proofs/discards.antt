@@ -1,2 +1,0 @@
--- Laws of the discards that void and close cite.
-pub mod Laws
