@@ -1,13 +1,13 @@
 -- A call that ends a round, close or void, keeps the agreement: no seat has a stake, an insurance, a hand or a prize left, and what the call adds
 -- to a purse is given.
 use mathlib.Core.Path.{_≡_, refl, sym, _∙_, ap, subst}
-use mathlib.Core.Bool.{true, false, not}
+use mathlib.Core.Bool.{true}
 use mathlib.Core.List.{List, [], _∷_, map}
 use Prim.Native.Nat.{ℕ, _+_, _*_}
 use native.Mathlib.Omega.{arith}
 use lib.IntN.{pos}
 use lib.ListN.{take, getD}
-use Rattle.lists.specs.Tests.{anyOf, allOf}
+use Rattle.lists.specs.Tests.{anyOf}
 use Rattle.lists.proofs.Places.{view-map}
 use Rattle.lists.proofs.Differences.{Diff}
 use Rattle.options.specs.declared.Options.{Options}
@@ -19,45 +19,28 @@ use Rattle.table.specs.Seat.{missingSeat, purse, stake, insurance, hands, laid,
 use Rattle.table.specs.Shoe.{isFresh}
 use Rattle.table.specs.Table.{seatAt}
 use Rattle.table.proofs.RoundEnd.{RoundEnd, cleared, roundEnded, cleared-laid, cleared-prizes, end-shaped, end-sound, end-money}
-use Rattle.history.specs.Entry.{Entry, isKind, isFill, isCredit, isEnd, isLoad}
+use Rattle.history.specs.Entry.{Entry, isEnd}
 use Rattle.history.specs.Rounds.{stakeIn, stakedBelow}
 use Rattle.history.specs.Cards.{Cards, makeCards, callTakes, bankAfter, cardsAfter, cardsOfHistory}
 use Rattle.history.specs.Hands.{handsAfter}
 use Rattle.history.specs.Money.{laidEver, prizesEver, bought, cashed, endsBrought, endBrings, purseOf}
 use Rattle.agreement.specs.Aids.Agrees.{SeatAgrees, CardsAgree, Good}
+use Rattle.agreement.proofs.Groups.{InGroup, ofEnd, not-fill, not-credit, not-load, not-buy, not-cash, not-deal}
 use Rattle.agreement.proofs.Purse.{purse-law}
-use Rattle.agreement.proofs.Quiet.{none-of-all, Quiet, lays-nothing, wins-nothing}
+use Rattle.agreement.proofs.Quiet.{lays-nothing, wins-nothing}
 use Rattle.agreement.proofs.Events.{seatDecided, nobody-decided}
 
--- a call that ends a round and does nothing that another kind does
+-- a call that ends a round
 pub record Ends (e : Entry) : Type 0 where
-  pub quiet : Quiet e
+  pub among : InGroup e ofEnd
   pub is-end : isEnd e ≡ true
-  pub no-load : isLoad e ≡ false
-  pub no-fill : isFill e ≡ false
-  pub no-credit : isCredit e ≡ false
-
--- the kinds that it is none of
-abbrev pub goingKinds : List ℕ
-goingKinds = 1 ∷ 2 ∷ 3 ∷ 4 ∷ 5 ∷ 6 ∷ 7 ∷ 9 ∷ 10 ∷ 11 ∷ 17 ∷ []
-
-pub ends : (e : Entry) → isEnd e ≡ true → allOf (λ k. not (isKind k e)) goingKinds ≡ true → Ends e
-ends e is-end h =
-    let (fill, (credit, (buy, (cash, (stake, (deal, (insure, (draw, (double, (split, (load, _))))))))))) = none-of-all e goingKinds h in
-    record {
-      quiet = record { no-deal = deal; no-buy = buy; no-cash = cash; no-stake = stake; no-insure = insure; no-draw = draw; no-double = double; no-split = split };
-      is-end = is-end;
-      no-load = load;
-      no-fill = fill;
-      no-credit = credit;
-    }
 
 module _ (o : Options) (opening : List ℕ) (es : List Entry) (i : ℕ) (e : Entry) (h : Ends e) where
   -- the purse changes by what the ended round adds
   pub purse-end : (x next plus minus : ℕ) → Diff (endBrings o opening es i e) plus minus → pos x ≡ purseOf o opening es i → next + minus ≡ x + plus → pos next ≡ purseOf o opening (e ∷ es) i
   purse-end x next plus minus d p moved =
       purse-law x next (bought es i) (cashed es i) (laidEver es i) (prizesEver o opening es i) _ _ _ _ (endsBrought o opening es i) (endBrings o opening es i e) plus minus d p
-      (simp (h .quiet .no-buy, h .quiet .no-cash) (omega (arith, lays-nothing o opening es i e (h .quiet) (stakeIn es i), wins-nothing o opening es i e (h .quiet))))
+      (simp (not-buy e (h .among) refl, not-cash e (h .among) refl) (omega (arith, lays-nothing o opening es i e (h .among) refl refl (stakeIn es i), wins-nothing o opening es i e (h .among) refl refl)))
 
   -- the seat after it
   end-seat : (purse-of : Seat → ℕ) (s : Seat) → pos (purse-of s) ≡ purseOf o opening (e ∷ es) i → SeatAgrees o opening (e ∷ es) i (cleared purse-of s)
@@ -66,7 +49,7 @@ module _ (o : Options) (opening : List ℕ) (es : List Entry) (i : ℕ) (e : Ent
       record {
         stake-is = simp (h .is-end);
         insurance-is = simp (h .is-end);
-        hands-are = simp (h .quiet .no-deal, h .is-end);
+        hands-are = simp (not-deal e (h .among) refl, h .is-end);
         laid-is = cleared-laid purse-of s ∙ simp (h .is-end);
         prizes-are = cleared-prizes o purse-of s ∙ simp (h .is-end);
         purse-is = p;
@@ -96,7 +79,7 @@ module _ (opening : List ℕ) (es : List Entry) (t : Table) (e : Entry) (tray : 
   -- the history's cards after the call
   cards-after : EndCall → (c : Cards) → c ≡ cardsOfHistory (t .options) opening es → cardsOfHistory (t .options) opening (e ∷ es) ≡ makeCards (c .order) (c .fresh) (c .taken + k) []
   unfolding cardsAfter bankAfter
-  cards-after call c same = simp (call .ends .no-load, call .ends .quiet .no-deal, call .ends .is-end, call .takes, same)
+  cards-after call c same = simp (not-load e (call .ends .among) refl, not-deal e (call .ends .among) refl, call .ends .is-end, call .takes, same)
 
   pub end-call : Good opening es t → RoundEnd t tray purse-of shoe k → EndCall → Good opening (e ∷ es) (roundEnded t tray purse-of shoe)
   unfolding anyOf seatDrew
@@ -127,7 +110,7 @@ module _ (opening : List ℕ) (es : List Entry) (t : Table) (e : Entry) (tray : 
               drew = undecided .0 ∙ sym (simp (q .is-end));
               decided = undecided .1 ∙ sym (simp (q .is-end));
               balance =
-                  simp (q .no-fill, q .quiet .no-buy, q .no-credit, q .quiet .no-cash)
+                  simp (not-fill e (q .among) refl, not-buy e (q .among) refl, not-credit e (q .among) refl, not-cash e (q .among) refl)
                   (omega (arith, end-money t tray purse-of shoe k (g .shaped) (g .sound) end, a .balance));
             };
       }

@@ -5,9 +5,10 @@ ghost use lib.Dec.{leb};
 ghost use Rattle.call.specs.Refusal.{first};
 use call::refusal::asked;
 
-// 1 broken, the number of the call's phase where the phase is wrong, 8 no such seat. It takes the answers, so that no table is copied for it.
-pub fn seat_number(damaged: bool, phase: u8, wrong: bool, seats: u8, seat: u8) -> u8
-    ensures { λ r. ⌜ r ≡ first ((1, damaged) ∷ (phase, wrong) ∷ (8, leb seats seat) ∷ []) ⌝ }
+// The number of the call's phase where the phase is wrong, 8 no such seat; 1 was asked before the call. It takes the answers, so that no table is copied
+// for it.
+pub fn seat_number(phase: u8, wrong: bool, seats: u8, seat: u8) -> u8
+    ensures { λ r. ⌜ r ≡ first ((phase, wrong) ∷ (8, leb seats seat) ∷ []) ⌝ }
 {
-    asked(1, damaged, asked(phase, wrong, asked(8, seats <= seat, 0)))
+    asked(phase, wrong, asked(8, seats <= seat, 0))
 }

@@ -2,4 +2,3 @@
 pub mod conditions;
 pub mod outcome;
 pub mod reply;
-pub mod settlement;

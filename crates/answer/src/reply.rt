@@ -1,15 +1,17 @@
-// What a step gives back: the answer, which is the call's number and what close shows, and the next table beside it.
+// What a step gives back: the answer and the next table beside it. The pay lines of close stand in two arrays that the caller lends; the answer says how
+// many there are.
 ghost use mathlib.Core.Path.{_≡_};
 ghost use Rattle.answer.specs.Reply.{plainReply};
 use crate::outcome::Outcome;
-use crate::settlement::Settlement;
-use crate::settlement::empty_settlement;
+use cards::hand::Hand;
+use cards::hand::empty_hand;
 use table::Table;
 
-// The answer to a call; only an accepted close shows cards and lines.
+// The call's number, the bank's cards and the number of pay lines; only an accepted close has cards and lines.
 pub struct Answer {
     pub number: u8,
-    pub settlement: Settlement,
+    pub bank: Hand,
+    pub lines: usize,
 }
 
 pub struct Reply {
@@ -21,12 +23,13 @@ pub struct Reply {
 pub fn plain_reply(o: Outcome) -> Reply
     ensures { λ r. ⌜ r ≡ plainReply o ⌝ }
 {
-    let settlement = empty_settlement();
+    let bank = empty_hand();
     let table = o.table;
     Reply {
         answer: Answer {
             number: o.number,
-            settlement,
+            bank,
+            lines: 0,
         },
         table,
     }

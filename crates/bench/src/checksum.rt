@@ -37,8 +37,7 @@ pub(crate) fn of_step(sum: u64, answer: Answer, t: Table) -> u64 {
         mix(mix(sum, answer.number as u64), t.tray),
         shoe.drawn as u64,
     );
-    let settlement = answer.settlement;
-    let bank = settlement.bank;
+    let bank = answer.bank;
     if bank.count == 0 {
         return all;
     }

@@ -4,6 +4,8 @@ mod house;
 mod plan;
 
 use answer::reply::Reply;
+use broken::broken;
+use call::pay_line::LINES;
 use cashier::opening::opening;
 use engine::step;
 use libc::STDOUT_FILENO;
@@ -27,9 +29,20 @@ fn opened(p: Plan) -> Table {
 }
 
 // One call of the plan. The order is lent to each of them, and only a load reads it.
-fn reply_to(p: Plan, t: Table, cards: [u8; 416]) -> Reply {
+fn reply_to(
+    p: Plan,
+    t: Table,
+    cards: [u8; 416],
+    names: &mut [u32; LINES],
+    nets: &mut [i64; LINES],
+) -> Reply {
     let n = house::cards_of(p.decks);
-    step(t, plan::chosen(p), &cards[..n])
+    step(t, plan::chosen(p), &cards[..n], names, nets)
+}
+
+// A run that ends on a broken table has no checksum.
+fn whole(sum: u64, damaged: bool) -> u64 {
+    if damaged { 0 } else { sum }
 }
 
 // The checksum after these calls.
@@ -37,6 +50,8 @@ fn played(calls: u64) -> u64 {
     let mut p = plan::start();
     let mut t = opened(p);
     let mut cards = house::order_of(p.decks, p.seed);
+    let mut names = [0u32; LINES];
+    let mut nets = [0i64; LINES];
     let mut sum: u64 = 0;
     for n in 0..calls {
         if p.stage == plan::OPEN {
@@ -46,13 +61,13 @@ fn played(calls: u64) -> u64 {
         if p.stage == plan::LOAD {
             cards = house::order_of(p.decks, p.seed);
         }
-        let s = reply_to(p, t, cards);
+        let s = reply_to(p, t, cards, &mut names, &mut nets);
         let answer = s.answer;
         t = s.table;
         sum = checksum::of_step(sum, answer, t);
         p = plan::after(p, answer.number, t);
     }
-    sum
+    whole(sum, broken(t))
 }
 
 fn main() {

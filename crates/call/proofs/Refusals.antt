@@ -1,11 +1,11 @@
 -- The answer of a list of conditions is n exactly when the condition of n holds and none before it does.
 use mathlib.Core.Path.{_≡_, refl, sym, _∙_, ap}
-use mathlib.Core.Bool.{Bool, true, false, and-eq-true-iff}
+use mathlib.Core.Bool.{Bool, true, false, not, _&&_, and-false, and-eq-true-iff, true≢false}
 use mathlib.Core.List.{List, [], _∷_, _++_}
 use Prim.Native.Nat.{ℕ, _<_}
 use native.Mathlib.Omega.{arith}
-use lib.Dec.{ltb}
-use borrow.Author.Tests.{ltb-true}
+use lib.Dec.{ltb, eqb}
+use borrow.Author.Tests.{ltb-true, eq-eqb}
 use Rattle.lists.specs.Tests.{anyOf, allOf}
 use Rattle.lists.proofs.Tests.{or-eq-false}
 use Rattle.call.specs.Refusal.{Condition, first, holds, FirstAt}
@@ -34,6 +34,20 @@ first-stands ((m, false) ∷ cs) n h e =
       here = ap (λ (xs : List Condition). (m, false) ∷ xs) (later .here);
       none = later .none;
     }
+
+-- it is the number of a condition that holds
+pub first-holds : (cs : List Condition) (n : ℕ) → (n ≡ 0 → ⊥) → first cs ≡ n → anyOf (λ c. eqb (c .0) n && holds c) cs ≡ true
+unfolding first anyOf
+first-holds [] n h e = absurd (h (sym e))
+first-holds ((m, true) ∷ cs) n h e = simp (eq-eqb m n e)
+first-holds ((m, false) ∷ cs) n h e = simp (and-false, first-holds cs n h e)
+
+-- of conditions that have other numbers and are asked before it none holds
+pub first-past : (cs rest : List Condition) (n : ℕ) → allOf (λ c. not (eqb (c .0) n)) cs ≡ true → first (cs ++ rest) ≡ n → first cs ≡ 0
+unfolding first allOf
+first-past [] rest n others e = refl
+first-past ((m, true) ∷ cs) rest n others e = absurd (true≢false (sym (simp (eq-eqb m n e) at others)))
+first-past ((m, false) ∷ cs) rest n others e = first-past cs rest n (and-eq-true-iff (not (eqb m n)) (allOf (λ c. not (eqb (c .0) n)) cs) .0 others .1) e
 
 -- an accepted call: no condition holds, one after the other. A number is never 0
 pub accepted-head : (n : ℕ) (b : Bool) (cs : List Condition) → 0 < n → first ((n, b) ∷ cs) ≡ 0 → b ≡ false

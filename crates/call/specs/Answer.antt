@@ -1,7 +1,7 @@
 -- Document 01, "Payment" and "Who can bring about which number": what a call answers. Only close shows cards and lines.
 use mathlib.Core.List.{List, []}
 use Prim.Native.Nat.{ℕ}
-use Rattle.call.specs.declared.PayLine.{PayLine}
+use Rattle.call.specs.PayLine.{PayLine}
 
 -- What a call shows: the bank's cards and the pay lines.
 pub record Shown : Type 0 where

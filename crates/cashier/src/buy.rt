@@ -1,13 +1,14 @@
-// buy: a seat's purse up (document 01, "The seventeen calls"). For every table, seat and amount its outcome is that of cashier_spec/specs/Buy.antt.
+// buy: a seat's purse up (document 01, "The seventeen calls"). For every whole table, seat and amount its outcome is that of cashier_spec/specs/Buy.antt.
 ghost use mathlib.Core.Path.{_≡_};
+ghost use mathlib.Core.Bool.{false};
 ghost use Rattle.call.specs.Refusal.{first};
 ghost use Rattle.answer.specs.Outcome.{outcome};
 ghost use Rattle.cashier_spec.specs.Buy.{buyConditions, buyEffect};
+ghost use Rattle.table.specs.Broken.{broken};
 use crate::purse::purse_at;
 use crate::purse::with_purse_at;
 use answer::conditions::seat_number;
 use answer::outcome::Outcome;
-use broken::broken;
 use call::At;
 use call::refusal::asked;
 use money::most_money::past_most_money;
@@ -17,10 +18,11 @@ use table::Table;
 
 // The number of a buy: what every call of a seat asks first, then the rest of its list.
 fn buy_number(t: Table, at: At, n: u64) -> u8
+    requires { ⌜ broken t ≡ false ⌝ }
     ensures { λ r. ⌜ r ≡ first (buyConditions t (at .seat) n) ⌝ }
 {
     let o = t.options;
-    let early = seat_number(broken(t), 4, is_dealt(t), o.seats, at.seat);
+    let early = seat_number(4, is_dealt(t), o.seats, at.seat);
     if early != 0 {
         return early;
     }
@@ -32,6 +34,7 @@ fn buy_number(t: Table, at: At, n: u64) -> u8
 }
 
 pub fn buy(t: Table, at: At, n: u64) -> Outcome
+    requires { ⌜ broken t ≡ false ⌝ }
     ensures { λ r. ⌜ r ≡ outcome (buyConditions t (at .seat) n) (buyEffect t (at .seat) n) t ⌝ }
 {
     let number = buy_number(t, at, n);

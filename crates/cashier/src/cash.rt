@@ -1,13 +1,14 @@
-// cash: a seat's purse down (document 01, "The seventeen calls"). For every table, seat and amount its outcome is that of cashier_spec/specs/Cash.antt.
+// cash: a seat's purse down (document 01, "The seventeen calls"). For every whole table, seat and amount its outcome is that of cashier_spec/specs/Cash.antt.
 ghost use mathlib.Core.Path.{_≡_};
+ghost use mathlib.Core.Bool.{false};
 ghost use Rattle.call.specs.Refusal.{first};
 ghost use Rattle.answer.specs.Outcome.{outcome};
 ghost use Rattle.cashier_spec.specs.Cash.{cashConditions, cashEffect};
+ghost use Rattle.table.specs.Broken.{broken};
 use crate::purse::purse_at;
 use crate::purse::with_purse_at;
 use answer::conditions::seat_number;
 use answer::outcome::Outcome;
-use broken::broken;
 use call::At;
 use call::refusal::asked;
 use state::round::is_dealt;
@@ -15,10 +16,11 @@ use table::Table;
 
 // The number of a cash: what every call of a seat asks first, then the rest of its list. A purse is read only of a seat that there is.
 fn cash_number(t: Table, at: At, n: u64) -> u8
+    requires { ⌜ broken t ≡ false ⌝ }
     ensures { λ r. ⌜ r ≡ first (cashConditions t (at .seat) n) ⌝ }
 {
     let o = t.options;
-    let early = seat_number(broken(t), 4, is_dealt(t), o.seats, at.seat);
+    let early = seat_number(4, is_dealt(t), o.seats, at.seat);
     if early != 0 {
         return early;
     }
@@ -26,6 +28,7 @@ fn cash_number(t: Table, at: At, n: u64) -> u8
 }
 
 pub fn cash(t: Table, at: At, n: u64) -> Outcome
+    requires { ⌜ broken t ≡ false ⌝ }
     ensures { λ r. ⌜ r ≡ outcome (cashConditions t (at .seat) n) (cashEffect t (at .seat) n) t ⌝ }
 {
     let number = cash_number(t, at, n);

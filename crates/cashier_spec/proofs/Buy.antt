@@ -15,7 +15,8 @@ use Rattle.call.specs.declared.Call.the-variants.{Buy}
 use Rattle.call.specs.Refusal.{first}
 use Rattle.call.proofs.Refusals.{none-hold}
 use Rattle.table.specs.declared.Table.{Table}
-use Rattle.table.specs.Seat.{missingSeat, purse, stake}
+use Rattle.table.specs.Guest.{withPurse}
+use Rattle.table.specs.Seat.{missingSeat, purse}
 use Rattle.table.specs.Table.{seatAt}
 use Rattle.table.specs.Money.{mostMoney, allMoney}
 use Rattle.table.specs.Shape.{Shaped}
@@ -53,10 +54,10 @@ module _ (t : Table) (j n : ℕ) (e : first (buyConditions t j n) ≡ 0) where
       go (yes beyond) = rw (List·getD-eq-default (t .seats) missingSeat {n = j} beyond) (omega (arith, buy-accepted .in-limit))
       go (no within) = omega (arith, buy-accepted .in-limit, sum-has purse (t .seats) j missingSeat (omega arith))
 
-  buy-moves : Sound t → PurseMoves t j (purse (seatAt t j) + n) (stake (seatAt t j)) n 0
+  buy-moves : Sound t → PurseMoves t j (withPurse (seatAt t j .money) (purse (seatAt t j) + n)) n 0
   buy-moves sound =
       let a = buy-accepted in
-      record { seat = a .seat; fits = sound .seats j (a .seat .nine) .stake-fits; pays = omega arith; in-limit = omega (arith, a .in-limit) }
+      record { seat = a .seat; fits = sound .seats j (a .seat .nine) .stake-fits; pays = omega arith; same-insurance = refl; in-limit = omega (arith, a .in-limit) }
 
 pub buy-kept : (t : Table) (j n : ℕ) → Shaped t → Sound t → first (buyConditions t j n) ≡ 0 → Shaped (buyEffect t j n) × Sound (buyEffect t j n)
 unfolding buyEffect
@@ -64,12 +65,12 @@ buy-kept t j n shaped sound e = purse-kept (buy-moves t j n e sound) shaped soun
 
 pub buy-good : (opening : List ℕ) (es : List Entry) (t : Table) (at : At) (n : ℕ) (order : List ℕ) → Good opening es t → first (buyConditions t (at .seat) n) ≡ 0
     → Good opening (entry (Buy at n) order ∷ es) (buyEffect t (at .seat) n)
-unfolding buyEffect allOf lays
+unfolding buyEffect lays
 buy-good opening es t at n order g e =
     let j = at .seat in
     purse-good (entry (Buy at n) order) (buy-moves t j n e (g .sound)) g
     (record {
-      kinds = refl;
+      among = refl;
       of-seat = λ i. refl;
       stakes = g .agrees .seats j .stake-is;
       lays-more = omega (arith, cond-same {A = ℕ} (eqb j j) 0);

@@ -12,7 +12,8 @@ use Rattle.call.specs.declared.Call.the-variants.{Cash}
 use Rattle.call.specs.Refusal.{first}
 use Rattle.call.proofs.Refusals.{none-hold}
 use Rattle.table.specs.declared.Table.{Table}
-use Rattle.table.specs.Seat.{purse, stake}
+use Rattle.table.specs.Guest.{withPurse}
+use Rattle.table.specs.Seat.{purse}
 use Rattle.table.specs.Table.{seatAt}
 use Rattle.table.specs.Shape.{Shaped}
 use Rattle.table.specs.Aids.Sound.{Sound}
@@ -41,13 +42,14 @@ module _ (t : Table) (j n : ℕ) (e : first (cashConditions t j n) ≡ 0) where
         enough = ltb-false (purse (seatAt t j)) n enough;
       }
 
-  cash-moves : Sound t → PurseMoves t j (purse (seatAt t j) - n) (stake (seatAt t j)) 0 n
+  cash-moves : Sound t → PurseMoves t j (withPurse (seatAt t j .money) (purse (seatAt t j) - n)) 0 n
   cash-moves sound =
       let a = cash-accepted in
       record {
         seat = a .seat;
         fits = sound .seats j (a .seat .nine) .stake-fits;
         pays = omega (arith, a .enough);
+        same-insurance = refl;
         in-limit = omega (arith, sound .money);
       }
 
@@ -57,12 +59,12 @@ cash-kept t j n shaped sound e = purse-kept (cash-moves t j n e sound) shaped so
 
 pub cash-good : (opening : List ℕ) (es : List Entry) (t : Table) (at : At) (n : ℕ) (order : List ℕ) → Good opening es t → first (cashConditions t (at .seat) n) ≡ 0
     → Good opening (entry (Cash at n) order ∷ es) (cashEffect t (at .seat) n)
-unfolding cashEffect allOf lays
+unfolding cashEffect lays
 cash-good opening es t at n order g e =
     let j = at .seat in
     purse-good (entry (Cash at n) order) (cash-moves t j n e (g .sound)) g
     (record {
-      kinds = refl;
+      among = refl;
       of-seat = λ i. refl;
       stakes = g .agrees .seats j .stake-is;
       lays-more = omega (arith, cond-same {A = ℕ} (eqb j j) 0);

@@ -17,7 +17,6 @@ use Rattle.table.specs.Aids.Sound.{Sound}
 use Rattle.history.specs.Entry.{Entry}
 use Rattle.history.specs.Aids.MakeEntry.{entry}
 use Rattle.agreement.specs.Aids.Agrees.{Good}
-use Rattle.agreement.proofs.Quiet.{house}
 use Rattle.cashier_spec.specs.Credit.{creditConditions, creditEffect}
 use Rattle.cashier_spec.proofs.Tray.{TrayMoves, tray-kept, tray-good}
 
@@ -44,6 +43,6 @@ credit-kept t n shaped sound e = tray-kept (credit-moves t n e sound) shaped sou
 
 pub credit-good : (opening : List ℕ) (es : List Entry) (t : Table) (n : ℕ) (order : List ℕ) → Good opening es t → first (creditConditions t n) ≡ 0
     → Good opening (entry (Credit n) order ∷ es) (creditEffect t n)
-unfolding creditEffect allOf
+unfolding creditEffect
 credit-good opening es t n order g e =
-    tray-good (credit-moves t n e (g .sound)) opening es (entry (Credit n) order) (house (entry (Credit n) order) refl) refl refl refl g
+    tray-good (credit-moves t n e (g .sound)) opening es (entry (Credit n) order) refl refl refl refl g

@@ -18,7 +18,6 @@ use Rattle.table.specs.Aids.Sound.{Sound}
 use Rattle.history.specs.Entry.{Entry}
 use Rattle.history.specs.Aids.MakeEntry.{entry}
 use Rattle.agreement.specs.Aids.Agrees.{Good}
-use Rattle.agreement.proofs.Quiet.{house}
 use Rattle.cashier_spec.specs.Fill.{fillConditions, fillEffect}
 use Rattle.cashier_spec.proofs.Tray.{TrayMoves, tray-kept, tray-good}
 
@@ -45,5 +44,5 @@ fill-kept t n shaped sound e = tray-kept (fill-moves t n e) shaped sound
 
 pub fill-good : (opening : List ℕ) (es : List Entry) (t : Table) (n : ℕ) (order : List ℕ) → Good opening es t → first (fillConditions t n) ≡ 0
     → Good opening (entry (Fill n) order ∷ es) (fillEffect t n)
-unfolding fillEffect allOf
-fill-good opening es t n order g e = tray-good (fill-moves t n e) opening es (entry (Fill n) order) (house (entry (Fill n) order) refl) refl refl refl g
+unfolding fillEffect
+fill-good opening es t n order g e = tray-good (fill-moves t n e) opening es (entry (Fill n) order) refl refl refl refl g

@@ -29,7 +29,7 @@ use Rattle.history.specs.Entry.{Entry}
 use Rattle.history.specs.Aids.MakeEntry.{entry}
 use Rattle.history.specs.Cards.{cardsAfter}
 use Rattle.agreement.specs.Aids.Agrees.{Good}
-use Rattle.agreement.proofs.Quiet.{house, house-seat}
+use Rattle.agreement.proofs.Quiet.{house-seat}
 use Rattle.cashier_spec.specs.Load.{loadConditions, loadEffect}
 use Rattle.cashier_spec.proofs.BetweenRounds.{no-hand}
 use Rattle.cashier_spec.proofs.Order.{valid-length, loaded, loaded-length}
@@ -107,7 +107,7 @@ load-kept t order shaped sound e =
 
 pub load-good : (opening : List ℕ) (es : List Entry) (t : Table) (order : List ℕ) → Good opening es t → first (loadConditions t order) ≡ 0
     → Good opening (entry Load order ∷ es) (loadEffect t order)
-unfolding loadEffect allOf cardsAfter anyDrew anyDecided
+unfolding loadEffect cardsAfter anyDrew anyDecided
 load-good opening es t order g e =
     let (shaped, sound) = load-kept t order (g .shaped) (g .sound) e in
     let a = g .agrees in
@@ -118,7 +118,7 @@ load-good opening es t order g e =
           record {
             cards = record { order = loaded (t .options .decks) order (load-accepted t order e .valid); taken = refl; fresh = refl; bank = a .cards .bank };
             dealt = a .dealt;
-            seats = λ i. house-seat (t .options) opening es i (entry Load order) (house (entry Load order) refl) (seatAt t i) (a .seats i);
+            seats = λ i. house-seat (t .options) opening es i (entry Load order) refl (seatAt t i) (a .seats i);
             drew = a .drew;
             decided = a .decided;
             balance = omega (arith, a .balance);

@@ -2,7 +2,7 @@
 use mathlib.Core.Path.{_≡_, refl}
 use mathlib.Core.Bool.{true, _&&_, and-eq-true-iff}
 use mathlib.Core.List.{List, _∷_}
-use Prim.Native.Nat.{ℕ, _-_, _≤_, _<_}
+use Prim.Native.Nat.{ℕ, _≤_, _<_}
 use native.Mathlib.Omega.{arith}
 use lib.Dec.{leb}
 use borrow.Author.Tests.{ltb-false, leb-true, eq-eqb, eqb-false, not-false}
@@ -13,6 +13,7 @@ use Rattle.call.specs.Refusal.{first}
 use Rattle.call.proofs.Refusals.{none-hold}
 use Rattle.options.specs.Permitted.{stakePermitted}
 use Rattle.table.specs.declared.Table.{Table}
+use Rattle.table.specs.Guest.{staking}
 use Rattle.table.specs.Seat.{purse, stake}
 use Rattle.table.specs.Table.{seatAt}
 use Rattle.table.specs.Shape.{Shaped}
@@ -57,10 +58,10 @@ module _ (t : Table) (j n : ℕ) (e : first (stakeConditions t j n) ≡ 0) where
       let (least, most) = and-eq-true-iff (leb (o .smallest) n) _ .0 in-range in
       omega (arith, leb-true n (o .largest) most, sound-options t (unbroken t (a .seat .unbroken)) .largest-most)
 
-  stake-moves : Sound t → PurseMoves t j (purse (seatAt t j) - n) n 0 0
+  stake-moves : Sound t → PurseMoves t j (staking (seatAt t j .money) n) 0 0
   stake-moves sound =
       let a = stake-accepted in
-      record { seat = a .seat; fits = λ h. a .permitted; pays = omega (arith, a .unstaked, a .enough); in-limit = omega (arith, sound .money) }
+      record { seat = a .seat; fits = λ h. a .permitted; pays = omega (arith, a .unstaked, a .enough); same-insurance = refl; in-limit = omega (arith, sound .money) }
 
 pub stake-kept : (t : Table) (j n : ℕ) → Shaped t → Sound t → first (stakeConditions t j n) ≡ 0 → Shaped (stakeEffect t j n) × Sound (stakeEffect t j n)
 unfolding stakeEffect
@@ -68,13 +69,13 @@ stake-kept t j n shaped sound e = purse-kept (stake-moves t j n e sound) shaped 
 
 pub stake-good : (opening : List ℕ) (es : List Entry) (t : Table) (at : At) (n : ℕ) (order : List ℕ) → Good opening es t → first (stakeConditions t (at .seat) n) ≡ 0
     → Good opening (entry (Stake at n) order ∷ es) (stakeEffect t (at .seat) n)
-unfolding stakeEffect allOf lays
+unfolding stakeEffect lays
 stake-good opening es t at n order g e =
     let j = at .seat in
     let itself = eq-eqb j j refl in
     purse-good (entry (Stake at n) order) (stake-moves t j n e (g .sound)) g
     (record {
-      kinds = refl;
+      among = refl;
       of-seat = λ i. refl;
       stakes = simp itself;
       lays-more = simp itself (omega (arith, stake-accepted t j n e .unstaked));

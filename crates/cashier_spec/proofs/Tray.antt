@@ -1,5 +1,5 @@
 -- fill and credit change the tray alone, between rounds: a table stays good when the tray changes by what comes onto the table and what leaves it.
-use mathlib.Core.Path.{_≡_, sym, _∙_}
+use mathlib.Core.Path.{_≡_, refl, sym, _∙_}
 use mathlib.Core.Bool.{false, cond, _||_, true≢false}
 use mathlib.Core.List.{List, _∷_}
 use Prim.Native.Nat.{ℕ, _+_, _≤_}
@@ -12,7 +12,8 @@ use Rattle.table.specs.Shape.{Shaped}
 use Rattle.table.specs.Aids.Sound.{Sound}
 use Rattle.history.specs.Entry.{Entry, isFill, isCredit, isBuy, isCash, isLoad, amountOf}
 use Rattle.agreement.specs.Aids.Agrees.{Good}
-use Rattle.agreement.proofs.Quiet.{House, house-seat, house-cards}
+use Rattle.agreement.proofs.Groups.{InGroup, ofHouse, not-deal, not-decision, not-end}
+use Rattle.agreement.proofs.Quiet.{house-seat, house-cards}
 use Rattle.agreement.proofs.Events.{no-drawing}
 
 -- what such a call must give: `came` is money that comes onto the table by it, `went` money that leaves it
@@ -43,13 +44,13 @@ module _ {t : Table} {tray came went : ℕ} (moves : TrayMoves t tray came went)
   )
 
   -- for a call of the house that takes no card, and whose amount the history adds to what came, or to what went
-  pub tray-good : (opening : List ℕ) (es : List Entry) (e : Entry) → House e → isLoad e ≡ false
+  pub tray-good : (opening : List ℕ) (es : List Entry) (e : Entry) → InGroup e ofHouse → isLoad e ≡ false
       → cond (isFill e || isBuy e) (amountOf e) 0 ≡ came
       → cond (isCredit e || isCash e) (amountOf e) 0 ≡ went
       → Good opening es t
       → Good opening (e ∷ es) (withTray t tray)
   unfolding anyDrew anyDecided
-  tray-good opening es e q no-load tray-in tray-out g =
+  tray-good opening es e among no-load tray-in tray-out g =
       let (shaped, sound) = tray-kept (g .shaped) (g .sound) in
       let a = g .agrees in
       record {
@@ -58,12 +59,12 @@ module _ {t : Table} {tray came went : ℕ} (moves : TrayMoves t tray came went)
         agrees =
             record {
               cards =
-                  rw (house-cards (t .options) opening es e q no-load)
+                  rw (house-cards (t .options) opening es e among no-load)
                   (record { order = a .cards .order; taken = a .cards .taken; fresh = a .cards .fresh; bank = a .cards .bank });
-              dealt = a .dealt ∙ sym (simp (q .no-end, q .no-deal));
-              seats = λ i. house-seat (t .options) opening es i e q (seatAt t i) (a .seats i);
-              drew = a .drew ∙ sym (simp (q .no-end, no-drawing e (q .no-decision)));
-              decided = a .decided ∙ sym (simp (q .no-end, q .no-decision));
+              dealt = a .dealt ∙ sym (simp (not-end e among refl, not-deal e among refl));
+              seats = λ i. house-seat (t .options) opening es i e among (seatAt t i) (a .seats i);
+              drew = a .drew ∙ sym (simp (not-end e among refl, no-drawing e (not-decision e among refl)));
+              decided = a .decided ∙ sym (simp (not-end e among refl, not-decision e among refl));
               balance = omega (arith, a .balance, moves .pays, tray-in, tray-out);
             };
       }

@@ -2,11 +2,12 @@
 -- leaves the seat's purse and is its stake, and nothing else changes.
 use mathlib.Core.Bool.{not}
 use mathlib.Core.List.{List, [], _∷_, _++_}
-use Prim.Native.Nat.{ℕ, _-_}
+use Prim.Native.Nat.{ℕ}
 use lib.Dec.{eqb, ltb}
 use Rattle.call.specs.Refusal.{Condition}
 use Rattle.table.specs.declared.Table.{Table}
-use Rattle.table.specs.Seat.{money, makeSeat, purse, insurance, isStaked}
+use Rattle.table.specs.Guest.{staking}
+use Rattle.table.specs.Seat.{withMoney, purse, isStaked}
 use Rattle.table.specs.Table.{withSeat, seatAt}
 use Rattle.options.specs.Permitted.{stakePermitted}
 use Rattle.answer.specs.Conditions.{betweenRounds, seatConditions}
@@ -22,4 +23,4 @@ stakeConditions t j n =
     ∷ []
 
 unfoldable pub stakeEffect : Table → ℕ → ℕ → Table
-stakeEffect t j n = withSeat t j (makeSeat (money (purse (seatAt t j) - n) n (insurance (seatAt t j))) (seatAt t j .hands))
+stakeEffect t j n = withSeat t j (withMoney (seatAt t j) (staking (seatAt t j .money) n))

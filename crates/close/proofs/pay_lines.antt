@@ -1,3 +1,3 @@
--- Laws of the pay lines that the loops cite.
+-- Laws of the pay lines that the passes cite.
 pub mod Pays
-pub mod HandLines
+pub mod Lines

@@ -1,3 +1,4 @@
 -- What only proofs and the contracts of private functions cite: nothing here has to be believed.
+pub mod LinesAt
 pub mod Closes
 pub mod Ended

@@ -8,15 +8,15 @@ mod seats;
 pub mod void;
 
 ghost use mathlib.Core.Path.{_≡_};
-ghost use mathlib.Core.Bool.{cond};
+ghost use mathlib.Core.Bool.{false, cond};
 ghost use lib.Dec.{eqb};
 ghost use Rattle.call.specs.Refusal.{first};
 ghost use Rattle.cards.specs.Hand.{cardsOf};
 ghost use Rattle.payment.specs.Bank.{mustDraw, scoreOf};
-ghost use Rattle.table.specs.Aids.Sound.{Sound};
+ghost use Rattle.table.specs.Broken.{broken};
 ghost use Rattle.close_spec.specs.BankDraw.{bankAtClose};
 ghost use Rattle.close_spec.specs.Close.{closeConditions, closeEffect, closeShown};
-ghost use Rattle.answer.specs.Reply.{makeReplyView, replyBy, viewOf};
+ghost use Rattle.answer.specs.Reply.{makeReplyView, replyBy, givenBy, givenOf};
 ghost use Rattle.close.specs.Aids.Closes.{Closes};
 use crate::bank_draw::bank_at_close;
 use crate::clearing::closed_shoe;
@@ -28,8 +28,7 @@ use answer::outcome::Outcome;
 use answer::reply::Answer;
 use answer::reply::Reply;
 use answer::reply::plain_reply;
-use answer::settlement::Settlement;
-use broken::broken;
+use call::pay_line::LINES;
 use call::refusal::asked;
 use cards::hand::Hand;
 use cards::hand::empty_hand;
@@ -41,13 +40,13 @@ use state::round::is_dealt;
 use state::turn::seat_in_turn;
 use table::Table;
 
-// The numbers that do not ask for the bank's cards: 1, 5, 7.
+// The numbers that do not ask for the bank's cards: 5, 7.
 fn early_number(t: Table) -> u8
-    ensures same { λ r. ⌜ first (closeConditions t) ≡ cond (eqb r 0) (cond (mustDraw (bankAtClose t)) 18 0) r ⌝ }
-    ensures sound { λ r. ⌜ (r ≡ 0 → Sound t) ⌝ }
+    requires { ⌜ broken t ≡ false ⌝ }
+    ensures { λ r. ⌜ first (closeConditions t) ≡ cond (eqb r 0) (cond (mustDraw (bankAtClose t)) 18 0) r ⌝ }
 {
     let turn = seat_in_turn(t);
-    asked(1, broken(t), asked(5, !is_dealt(t), asked(7, turn < 9, 0)))
+    asked(5, !is_dealt(t), asked(7, turn < 9, 0))
 }
 
 // The table after an accepted close: what lay on the layout goes to the tray, what goes back comes from it.
@@ -65,24 +64,26 @@ fn closed(t: Table, bank: Hand, score: Score) -> Table
 }
 
 // An accepted close: its bank's cards, its lines and its table.
-fn settled(t: Table, bank: Hand) -> Reply
+fn settled(t: Table, bank: Hand, names: &mut [u32; LINES], nets: &mut [i64; LINES]) -> Reply
     requires { ⌜ Closes t bank ⌝ }
-    ensures { λ r. ⌜ viewOf r ≡ makeReplyView 0 (closeShown t) (closeEffect t) ⌝ }
+    ensures { λ r. ⌜ givenOf r (now (names .exit)) (now (nets .exit)) ≡ givenBy (makeReplyView 0 (closeShown t) (closeEffect t)) (now (names .entry)) (now (nets .entry)) ⌝ }
 {
     let score = score_of(bank);
-    let lines = all_lines(t, score);
+    let lines = all_lines(names, nets, t, score);
     let table = closed(t, bank, score);
     Reply {
         answer: Answer {
             number: 0,
-            settlement: Settlement { bank, lines },
+            bank,
+            lines,
         },
         table,
     }
 }
 
-pub fn close(t: Table) -> Reply
-    ensures { λ r. ⌜ viewOf r ≡ replyBy (closeConditions t) (closeShown t) (closeEffect t) t ⌝ }
+pub fn close(t: Table, names: &mut [u32; LINES], nets: &mut [i64; LINES]) -> Reply
+    requires { ⌜ broken t ≡ false ⌝ }
+    ensures { λ r. ⌜ givenOf r (now (names .exit)) (now (nets .exit)) ≡ givenBy (replyBy (closeConditions t) (closeShown t) (closeEffect t) t) (now (names .entry)) (now (nets .entry)) ⌝ }
 {
     let early = early_number(t);
     if early != 0 {
@@ -98,5 +99,5 @@ pub fn close(t: Table) -> Reply
             table: t,
         });
     }
-    settled(t, bank)
+    settled(t, bank, names, nets)
 }

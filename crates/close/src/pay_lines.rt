@@ -1,17 +1,18 @@
-// The pay lines of close (document 01, "Payment"): one for each hand and insurance, by seat, in a seat the insurance first, then the hands by place.
+// The pay lines of close (document 01, "Payment"): one for each hand and insurance, by seat, in a seat the insurance first, then the hands by place. They are
+// written into the two arrays that the caller lends, from a place `at` on; each pass gives the place behind its lines.
 ghost use mathlib.Core.Path.{_≡_};
-ghost use Prim.Native.Nat.{_+_, _≤_};
+ghost use mathlib.Core.List.{map};
+ghost use Prim.Native.Nat.{_+_, _<_, _≤_};
+ghost use lib.ListN.{set};
 ghost use Rattle.rules.specs.SeatHand.{handsOf};
-ghost use Rattle.payment.specs.Pay.{net};
-ghost use Rattle.close_spec.specs.PayLines.{handLines, insuranceLines, seatLines, allLines};
-ghost use Rattle.answer.specs.Settlement.{linesOf};
-ghost use Rattle.answer.specs.Aids.WithLines.{withLines};
-use answer::settlement::PayLines;
-use answer::settlement::empty_lines;
-use answer::settlement::with_line;
-use call::HAND;
-use call::INSURANCE;
-use call::PayLine;
+ghost use Rattle.payment.specs.Pay.{net as netOf};
+ghost use Rattle.payment.specs.Pays.{insurancePays, handPays};
+ghost use Rattle.close_spec.specs.PayLines.{lineOf, seatLines, allLines};
+ghost use Rattle.close.specs.Aids.LinesAt.{LinesAt};
+use call::pay_line::HAND;
+use call::pay_line::INSURANCE;
+use call::pay_line::LINES;
+use call::pay_line::line_name;
 use options::Options;
 use payment::bank::Score;
 use payment::hand_pay::hand_pay;
@@ -22,81 +23,98 @@ use rules::seat_hand::used;
 use table::Seat;
 use table::Table;
 
-// The net: what goes back less what lay there.
-fn net_of(p: Pay) -> i64
-    requires { ⌜ (p .laid ≤ 1000000000000000) × (p .back ≤ 1000000000000000) ⌝ }
-    ensures { λ r. ⌜ r ≡ net p ⌝ }
+// One line: its name, and the net, what goes back less what lay there.
+fn put_line(names: &mut [u32; LINES], nets: &mut [i64; LINES], at: usize, name: u32, p: Pay)
+    requires { ⌜ (at < 45) × (p .laid ≤ 1000000000000000) × (p .back ≤ 1000000000000000) ⌝ }
+    ensures named { λ _. ⌜ now (names .exit) ≡ set (now (names .entry)) at name ⌝ }
+    ensures paid { λ _. ⌜ now (nets .exit) ≡ set (now (nets .entry)) at (netOf p) ⌝ }
 {
-    (p.back as i64) - (p.laid as i64)
+    let net = (p.back as i64) - (p.laid as i64);
+    names[at] = name;
+    nets[at] = net;
 }
 
 // A line for each hand in use.
 fn hand_lines(
-    l: PayLines,
+    names: &mut [u32; LINES],
+    nets: &mut [i64; LINES],
+    at: usize,
     o: Options,
     bank: Score,
     stake: u32,
     seat: u8,
     hands: SeatHands,
-) -> PayLines
-    requires { ⌜ l .count + 4 ≤ 45 ⌝ }
-    ensures few { λ r. ⌜ r .count ≤ l .count + 4 ⌝ }
-    ensures lines { λ r. ⌜ r ≡ withLines l (handLines o bank stake seat 0 (handsOf hands)) ⌝ }
+) -> usize
+    requires { ⌜ at + 4 ≤ 45 ⌝ }
+    ensures few { λ r. ⌜ r ≤ at + 4 ⌝ }
+    ensures lines { λ r. ⌜ LinesAt (now (names .entry)) (now (nets .entry)) at (map (lineOf seat) (handPays o bank stake 0 (handsOf hands))) (now (names .exit)) (now (nets .exit)) r ⌝ }
 {
     let n = used(hands);
-    let mut next = l;
     for place in 0usize..n {
         let h = hands.places[place];
-        let line = PayLine {
-            seat: seat as u16,
-            place: place as u16,
-            kind: HAND,
-            net: net_of(hand_pay(o, bank, stake, h)),
-        };
-        next = with_line(next, line);
+        let pay = hand_pay(o, bank, stake, h);
+        let name = line_name(seat, place as u8, HAND);
+        put_line(names, nets, at + place, name, pay);
     }
-    next
+    at + n
 }
 
 // A line for the insurance, if there is one.
-fn insurance_lines(l: PayLines, bank: Score, seat: u8, insurance: u32) -> PayLines
-    requires { ⌜ l .count + 1 ≤ 45 ⌝ }
-    ensures few { λ r. ⌜ r .count ≤ l .count + 1 ⌝ }
-    ensures lines { λ r. ⌜ r ≡ withLines l (insuranceLines bank seat insurance) ⌝ }
+fn insurance_lines(
+    names: &mut [u32; LINES],
+    nets: &mut [i64; LINES],
+    at: usize,
+    bank: Score,
+    seat: u8,
+    insurance: u32,
+) -> usize
+    requires { ⌜ at + 1 ≤ 45 ⌝ }
+    ensures few { λ r. ⌜ r ≤ at + 1 ⌝ }
+    ensures lines { λ r. ⌜ LinesAt (now (names .entry)) (now (nets .entry)) at (map (lineOf seat) (insurancePays bank insurance)) (now (names .exit)) (now (nets .exit)) r ⌝ }
 {
     if insurance == 0 {
-        return l;
+        return at;
     }
-    let line = PayLine {
-        seat: seat as u16,
-        place: 0,
-        kind: INSURANCE,
-        net: net_of(insurance_pay(bank, insurance)),
-    };
-    with_line(l, line)
+    let pay = insurance_pay(bank, insurance);
+    let name = line_name(seat, 0, INSURANCE);
+    put_line(names, nets, at, name, pay);
+    at + 1
 }
 
 // The lines of a seat.
-fn seat_lines(l: PayLines, o: Options, bank: Score, seat: u8, s: Seat) -> PayLines
-    requires { ⌜ l .count + 5 ≤ 45 ⌝ }
-    ensures few { λ r. ⌜ r .count ≤ l .count + 5 ⌝ }
-    ensures lines { λ r. ⌜ r ≡ withLines l (seatLines o bank seat s) ⌝ }
+fn seat_lines(
+    names: &mut [u32; LINES],
+    nets: &mut [i64; LINES],
+    at: usize,
+    o: Options,
+    bank: Score,
+    seat: u8,
+    s: Seat,
+) -> usize
+    requires { ⌜ at + 5 ≤ 45 ⌝ }
+    ensures few { λ r. ⌜ r ≤ at + 5 ⌝ }
+    ensures lines { λ r. ⌜ LinesAt (now (names .entry)) (now (nets .entry)) at (seatLines o bank seat s) (now (names .exit)) (now (nets .exit)) r ⌝ }
 {
     let money = s.money;
     let hands = s.hands;
-    let insured = insurance_lines(l, bank, seat, money.insurance);
-    hand_lines(insured, o, bank, money.stake, seat, hands)
+    let behind = insurance_lines(names, nets, at, bank, seat, money.insurance);
+    hand_lines(names, nets, behind, o, bank, money.stake, seat, hands)
 }
 
-// The lines of all seats: at most five each, so that the 45 places are enough for every table, a damaged one too.
-pub(crate) fn all_lines(t: Table, bank: Score) -> PayLines
-    ensures { λ r. ⌜ linesOf r ≡ allLines (t .options) bank 0 (t .seats) ⌝ }
+// The lines of all seats, from the arrays' front: at most five each, so that there are places enough for every table, a damaged one too.
+pub(crate) fn all_lines(
+    names: &mut [u32; LINES],
+    nets: &mut [i64; LINES],
+    t: Table,
+    bank: Score,
+) -> usize
+    ensures { λ r. ⌜ LinesAt (now (names .entry)) (now (nets .entry)) 0 (allLines (t .options) bank 0 (t .seats)) (now (names .exit)) (now (nets .exit)) r ⌝ }
 {
     let o = t.options;
-    let mut next = empty_lines();
+    let mut at: usize = 0;
     for i in 0usize..9 {
         let s = t.seats[i];
-        next = seat_lines(next, o, bank, i as u8, s);
+        at = seat_lines(names, nets, at, o, bank, i as u8, s);
     }
-    next
+    at
 }

@@ -12,7 +12,7 @@ use money::seat_money::prizes;
 use options::Options;
 use payment::bank::Score;
 use state::empty::empty_seat;
-use table::Money;
+use state::seat::with_purse;
 use table::Seat;
 use table::Table;
 
@@ -39,14 +39,7 @@ fn ended_seat(o: Options, ending: Ending, s: Seat) -> Seat
     requires { ⌜ Endable o s ⌝ }
     ensures { λ r. ⌜ r ≡ endedSeat o ending s ⌝ }
 {
-    let money = Money {
-        purse: ended_purse(o, ending, s),
-        stake: 0,
-        insurance: 0,
-    };
-    let mut next = empty_seat();
-    next.money = money;
-    next
+    with_purse(empty_seat(), ended_purse(o, ending, s))
 }
 
 // The table with every seat so. It asks for a sound table, whose purses can take what goes back.

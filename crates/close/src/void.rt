@@ -1,14 +1,15 @@
 // void: a misdeal. Each seat gets back what it laid in this round and returns its prizes, which the tray gets; drawn cards become discards
 // (document 01, "The seventeen calls").
 ghost use mathlib.Core.Path.{_≡_};
+ghost use mathlib.Core.Bool.{false};
 ghost use Rattle.call.specs.Refusal.{first};
 ghost use Rattle.answer.specs.Outcome.{outcome};
 ghost use Rattle.table.specs.Aids.Sound.{Sound};
 ghost use Rattle.close_spec.specs.Void.{voidConditions, voidEffect};
+ghost use Rattle.table.specs.Broken.{broken};
 use crate::seats::Ending;
 use crate::seats::ended_seats;
 use answer::outcome::Outcome;
-use broken::broken;
 use call::refusal::asked;
 use cards::hand::empty_hand;
 use money::sums::table_sums;
@@ -29,13 +30,15 @@ fn voided(t: Table) -> Table
 }
 
 fn void_number(t: Table) -> u8
+    requires { ⌜ broken t ≡ false ⌝ }
     ensures { λ r. ⌜ r ≡ first (voidConditions t) ⌝ }
 {
     let sums = table_sums(t);
-    asked(1, broken(t), asked(6, sums.cover == 0, 0))
+    asked(6, sums.cover == 0, 0)
 }
 
 pub fn void(t: Table) -> Outcome
+    requires { ⌜ broken t ≡ false ⌝ }
     ensures { λ r. ⌜ r ≡ outcome (voidConditions t) (voidEffect t) t ⌝ }
 {
     let number = void_number(t);

@@ -3,7 +3,7 @@
 use mathlib.Core.Path.{_≡_, refl, sym, _∙_, ap}
 use mathlib.Core.Bool.{true, false}
 use mathlib.Core.List.{List, _∷_}
-use Prim.Native.Nat.{ℕ, _+_, _-_, _*_, _≤_, _<_}
+use Prim.Native.Nat.{ℕ, _+_, _-_, _≤_, _<_}
 use native.Mathlib.Decide.{decLe}
 use native.Mathlib.Omega.{arith}
 use lib.IntN.{pos}
@@ -12,7 +12,6 @@ use borrow.Author.Tests.{not-false, ne-eqb}
 use Rattle.lists.specs.Sum.{sumOf}
 use Rattle.lists.specs.Tests.{allOf}
 use Rattle.lists.proofs.Sums.{sum-plus}
-use Rattle.lists.proofs.Picks.{cond-most}
 use Rattle.lists.proofs.Differences.{diff-pos, diff-add}
 use Rattle.call.specs.declared.Call.the-variants.{Close}
 use Rattle.call.specs.Refusal.{first}
@@ -20,8 +19,8 @@ use Rattle.call.proofs.Refusals.{none-hold}
 use Rattle.options.specs.declared.Options.{Options}
 use Rattle.payment.specs.Bank.{mustDraw, scoreOf}
 use Rattle.payment.specs.Wager.{wager}
-use Rattle.payment.specs.HandPay.{handPay}
-use Rattle.payment.specs.Insurance.{insurancePay}
+use Rattle.payment.specs.Pays.{insurancePays, handPays, paysOf, laidOf, backOf}
+use Rattle.payment.proofs.Pays.{laid-of, nets-diff}
 use Rattle.rules.specs.Turn.{someWaits}
 use Rattle.table.specs.declared.Seat.{Seat}
 use Rattle.table.specs.declared.Table.{Table}
@@ -38,12 +37,13 @@ use Rattle.history.specs.Aids.MakeEntry.{entry}
 use Rattle.history.specs.Cards.{makeCards, callTakes, bankTaken, bankFinal, cardsOfHistory}
 use Rattle.history.specs.Money.{closingScore, purseOf}
 use Rattle.agreement.specs.Aids.Agrees.{Good}
-use Rattle.agreement.proofs.EndOfRound.{Ends, ends, EndCall, purse-end, end-call}
+use Rattle.agreement.proofs.EndOfRound.{Ends, EndCall, purse-end, end-call}
 use Rattle.close_spec.specs.BankDraw.{bankAtClose, closeTakes}
+use Rattle.close_spec.specs.PayLines.{seatPays}
 use Rattle.close_spec.specs.Close.{closeConditions, closeScore, seatBack, closeEffect}
 use Rattle.close_spec.proofs.BankDraw.{burns-same}
 use Rattle.close_spec.proofs.Taken.{cardsAt, one-bank, final-same, takes, enough}
-use Rattle.close_spec.proofs.Nets.{nets-diff, insurance-diff, laid-wagers}
+use Rattle.close_spec.proofs.Back.{laid-wagers}
 use Rattle.close_spec.proofs.Tray.{dealt-seat, tray-pays}
 
 -- what an accepted close finds: a fact for each condition of its list
@@ -78,15 +78,8 @@ module _ (t : Table) (shaped : Shaped t) (ok : CloseAccepted t) where
   covered = tray-pays t (ok .sound) (ok .dealt) (shaped .nine-seats) (closeScore t)
 
   nothing-paid : (s : Seat) → HoldsNothing s → paid s ≡ 0
-  unfolding seatBack insurancePay sumOf
-  nothing-paid s n =
-      omega (
-        arith,
-        n .no-purse,
-        n .no-insurance,
-        ap (sumOf (λ h. handPay o (closeScore t) (stake s) h .back)) (no-hands s (n .no-hands)),
-        cond-most (closeScore t .natural) {x = 3 * insurance s} {y = 0} {k = 3 * insurance s} (omega arith) (omega arith),
-      )
+  unfolding seatBack paysOf insurancePays handPays sumOf
+  nothing-paid s n = rw (no-hands s (n .no-hands), n .no-insurance) (omega (arith, n .no-purse))
 
   end : RoundEnd t (t .tray + layout t - sumOf (seatBack o (closeScore t)) (t .seats)) paid (discardDrawn (withDrawn (t .shoe) (closeTakes t))) (closeTakes t)
   end =
@@ -127,21 +120,19 @@ module _ (opening : List ℕ) (es : List Entry) (t : Table) (order : List ℕ) (
   score-is = ap scoreOf (ap (bankFinal (t .options)) cards-are ∙ sym (final-same t (g .sound) (ok .dealt) (ok .stands)))
 
   closes : Ends (entry Close order)
-  unfolding allOf
-  closes = ends (entry Close order) refl refl
+  closes = record { among = refl; is-end = refl }
 
   -- the purse of a seat of any number
   purses : (i : ℕ) → pos (paid t (g .shaped) ok (seatAt t i)) ≡ purseOf (t .options) opening (entry Close order ∷ es) i
   unfolding seatBack
   purses i =
       let s = seatAt t i in
+      let pays = seatPays (t .options) (closeScore t) s in
       let a = g .agrees .seats i in
       purse-end (t .options) opening es i (entry Close order) closes (purse s) (paid t (g .shaped) ok s)
-      (laid s + (sumOf (λ h. handPay (t .options) (closeScore t) (stake s) h .back) (hands s) + insurancePay (closeScore t) (insurance s) .back))
-      (0 + (sumOf (wager (stake s)) (hands s) + insurance s))
-      (rw (← a .laid-is, score-is, ← a .stake-is, ← a .hands-are, ← a .insurance-is)
-      (diff-add (diff-pos (laid s)) (diff-add (nets-diff (t .options) opening (closeScore t) (stake s) (hands s)) (insurance-diff (closeScore t) (insurance s)))))
-      (a .purse-is) (omega (arith, all-laid t (g .shaped) ok i))
+      (laid s + backOf pays) (0 + laidOf pays)
+      (rw (← a .laid-is, score-is, ← a .stake-is, ← a .hands-are, ← a .insurance-is) (diff-add (diff-pos (laid s)) (nets-diff pays)))
+      (a .purse-is) (omega (arith, all-laid t (g .shaped) ok i, laid-of (t .options) (closeScore t) (stake s) (insurance s) (hands s)))
 
   call : EndCall opening es t (entry Close order) (t .tray + layout t - sumOf (seatBack (t .options) (closeScore t)) (t .seats)) (paid t (g .shaped) ok) (discardDrawn (withDrawn (t .shoe) (closeTakes t))) (closeTakes t)
   unfolding callTakes

@@ -1,7 +1,7 @@
 -- Close and void keep a table good: sound, and in agreement with the history. Before them the bank's cards, what goes back to a seat, and that the
 -- tray pays it; beside them that each pay line is there exactly once.
 pub mod BankDraw
-pub mod Nets
+pub mod Back
 pub mod Tray
 pub mod Taken
 pub mod Close

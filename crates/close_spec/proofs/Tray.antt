@@ -15,7 +15,7 @@ use Rattle.table.specs.Money.{mostMoney, layout}
 use Rattle.table.specs.Aids.Sound.{Sound, SoundSeat}
 use Rattle.table.proofs.Facts.{sound-options}
 use Rattle.close_spec.specs.Close.{seatBack}
-use Rattle.close_spec.proofs.Nets.{back-most}
+use Rattle.close_spec.proofs.Back.{back-most}
 
 module _ (t : Table) (sound : Sound t) where
   -- tray and layout together are within the limit

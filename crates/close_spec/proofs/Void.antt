@@ -31,7 +31,7 @@ use Rattle.history.specs.Aids.MakeEntry.{entry}
 use Rattle.history.specs.Cards.{callTakes}
 use Rattle.history.specs.Money.{laidIn, prizesIn, purseOf}
 use Rattle.agreement.specs.Aids.Agrees.{Good}
-use Rattle.agreement.proofs.EndOfRound.{Ends, ends, EndCall, purse-end, end-call}
+use Rattle.agreement.proofs.EndOfRound.{Ends, EndCall, purse-end, end-call}
 use Rattle.close_spec.specs.Void.{voidConditions, voidSeat, voidEffect}
 
 -- what an accepted void finds: a fact for each condition of its list
@@ -72,8 +72,7 @@ void-paid t shaped sound =
     )
 
 void-ends : (order : List ℕ) → Ends (entry Void order)
-unfolding allOf
-void-ends order = ends (entry Void order) refl refl
+void-ends order = record { among = refl; is-end = refl }
 
 round-end : (t : Table) → Shaped t → Sound t → RoundEnd t (voidEffect t .tray) (purseBack (t .options)) (voidEffect t .shoe) 0
 unfolding voidEffect

@@ -10,18 +10,17 @@ use Rattle.options.specs.declared.Options.{Options}
 use Rattle.payment.specs.declared.bank.Score.{Score}
 use Rattle.payment.specs.Bank.{mustDraw, scoreOf}
 use Rattle.rules.specs.Turn.{someWaits}
-use Rattle.payment.specs.HandPay.{handPay}
-use Rattle.payment.specs.Insurance.{insurancePay}
+use Rattle.payment.specs.Pays.{backOf}
 use Rattle.table.specs.declared.Seat.{Seat}
 use Rattle.table.specs.declared.Table.{Table}
-use Rattle.table.specs.Seat.{clearedSeat, purse, stake, insurance, hands}
+use Rattle.table.specs.Seat.{clearedSeat, purse}
 use Rattle.table.specs.Shoe.{withDrawn, discardDrawn}
 use Rattle.table.specs.Table.{makeTable, seatsHands, up}
 use Rattle.table.specs.Money.{layout}
 use Rattle.table.specs.Broken.{broken}
 use Rattle.answer.specs.Conditions.{inRound}
 use Rattle.close_spec.specs.BankDraw.{bankAtClose, closeTakes}
-use Rattle.close_spec.specs.PayLines.{allLines}
+use Rattle.close_spec.specs.PayLines.{seatPays, allLines}
 
 -- 7 a hand waits; 18 the shoe ends before the bank's total reaches 17.
 unfoldable pub closeConditions : Table → List Condition
@@ -32,12 +31,12 @@ closeConditions t =
     ∷ (18, mustDraw (bankAtClose t))
     ∷ []
 
--- The bank's score, and what goes back to a seat: for its hands and for its insurance.
+-- The bank's score, and what goes back to a seat.
 abbrev pub closeScore : Table → Score
 closeScore t = scoreOf (bankAtClose t)
 
 unfoldable pub seatBack : Options → Score → Seat → ℕ
-seatBack o bank s = sumOf (λ h. handPay o bank (stake s) h .back) (hands s) + insurancePay bank (insurance s) .back
+seatBack o bank s = backOf (seatPays o bank s)
 
 abbrev pub paidSeat : Options → Score → Seat → Seat
 paidSeat o bank s = clearedSeat (purse s + seatBack o bank s)

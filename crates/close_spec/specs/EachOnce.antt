@@ -6,27 +6,28 @@ use Prim.Native.Nat.{ℕ}
 use lib.Dec.{ltb, eqb}
 use lib.ListN.{length, getD}
 use Rattle.lists.specs.Tests.{those}
-use Rattle.call.specs.declared.PayLine.{PayLine}
+use Rattle.call.specs.PayLine.{PayLine, line}
 use Rattle.options.specs.declared.Options.{Options}
 use Rattle.payment.specs.declared.bank.Score.{Score}
 use Rattle.rules.specs.SeatHand.{playedOf}
 use Rattle.payment.specs.Pay.{net}
 use Rattle.payment.specs.HandPay.{handPay}
 use Rattle.payment.specs.Insurance.{insurancePay}
+use Rattle.payment.specs.Pays.{handKind, insuranceKind}
 use Rattle.table.specs.declared.Seat.{Seat}
 use Rattle.table.specs.Seat.{missingPlace, missingSeat, stake, insurance, hands}
-use Rattle.close_spec.specs.PayLines.{handKind, insuranceKind, line, allLines}
+use Rattle.close_spec.specs.PayLines.{allLines}
 
 -- The line names this seat, place and kind.
 abbrev pub names : ℕ → ℕ → ℕ → PayLine → Bool
 names seat place kind l = eqb seat (l .seat) && eqb place (l .place) && eqb kind (l .kind)
 
 -- What is due under a place and a kind to the seat of this number: one line for its hand in that place, one for its insurance, else none.
-unfoldable pub due : Options → Score → ℕ → Seat → ℕ → ℕ → List PayLine
-due o bank seat s place kind =
+unfoldable pub dueLines : Options → Score → ℕ → Seat → ℕ → ℕ → List PayLine
+dueLines o bank seat s place kind =
     cond (eqb kind handKind && ltb place (length (hands s))) (line seat place handKind (net (handPay o bank (stake s) (getD (hands s) place (playedOf missingPlace)))) ∷ [])
     (cond (eqb kind insuranceKind && eqb place 0 && ltb 0 (insurance s)) (line seat 0 insuranceKind (net (insurancePay bank (insurance s))) ∷ []) [])
 
 -- Under every seat, place and kind close has exactly the lines that are due; a number past the seats has no hand and no insurance.
 abbrev pub EachOnce : Options → Score → List Seat → Type 0
-EachOnce o bank seats = (seat place kind : ℕ) → those (names seat place kind) (allLines o bank 0 seats) ≡ due o bank seat (getD seats seat missingSeat) place kind
+EachOnce o bank seats = (seat place kind : ℕ) → those (names seat place kind) (allLines o bank 0 seats) ≡ dueLines o bank seat (getD seats seat missingSeat) place kind

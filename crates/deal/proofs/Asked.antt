@@ -1,6 +1,6 @@
 -- The conditions of deal from the code's tests: nothing is staked exactly if nothing is to be covered, which void asks too.
 use mathlib.Core.Path.{_≡_, sym, _∙_, ap}
-use mathlib.Core.Bool.{Bool, not}
+use mathlib.Core.Bool.{Bool, false, not}
 use Prim.Native.Nat.{ℕ}
 use native.Mathlib.Decide.{ℕ-discrete}
 use lib.Dec.{ltb, leb, eqb}
@@ -21,10 +21,10 @@ nothing-staked t m sums = go (ℕ-discrete (m .cover) 0)
     go (yes none) = ap not (none-staked t m sums none) ∙ sym (eq-eqb (m .cover) 0 none)
     go (no some) = ap not (is-staked t m sums some) ∙ sym (ne-eqb (m .cover) 0 some)
 
--- the code's tests, asked in the order of the list
-pub deal-asked : (t : Table) {broke dealt : Bool} {m : Sums} {left takes : ℕ} → broke ≡ broken t → dealt ≡ isDealt t → m ≡ tableSums t → left ≡ cardsLeft t → takes ≡ dealTakes t
-    → asked 1 broke (asked 4 dealt (asked 6 (eqb (m .cover) 0) (asked 16 (ltb (t .tray) (m .cover)) (asked 17 (leb left (t .options .cut)) (asked 17 (ltb left takes) 0)))))
+-- the code's tests, asked in the order of the list, of a table that is not broken
+pub deal-asked : (t : Table) {dealt : Bool} {m : Sums} {left takes : ℕ} → broken t ≡ false → dealt ≡ isDealt t → m ≡ tableSums t → left ≡ cardsLeft t → takes ≡ dealTakes t
+    → asked 4 dealt (asked 6 (eqb (m .cover) 0) (asked 16 (ltb (t .tray) (m .cover)) (asked 17 (leb left (t .options .cut)) (asked 17 (ltb left takes) 0))))
     ≡ first (dealConditions t)
 unfolding dealConditions first
-deal-asked t {broke} {dealt} {m} {left} {takes} is-broken is-dealt sums is-left is-takes =
-    rw (is-broken, is-dealt, is-left, is-takes, ← nothing-staked t m sums, sums)
+deal-asked t {dealt} {m} {left} {takes} whole is-dealt sums is-left is-takes =
+    rw (whole, is-dealt, is-left, is-takes, ← nothing-staked t m sums, sums)

@@ -1,19 +1,19 @@
 // deal: burns, then one card to each staked seat, one to the bank, and a second to each (document 01, "The seventeen calls"; articles 4 and 5).
-// Every table is taken: the number says why one is refused.
 mod burn;
 mod pass;
 
 ghost use mathlib.Core.Path.{_≡_};
+ghost use mathlib.Core.Bool.{false};
 ghost use Rattle.call.specs.Refusal.{first};
 ghost use Rattle.answer.specs.Outcome.{outcome};
 ghost use Rattle.deal_spec.specs.Deal.{dealConditions, dealEffect};
+ghost use Rattle.table.specs.Broken.{broken};
 use crate::burn::burn;
 use crate::burn::burn_at_deal;
 use crate::burn::deal_takes;
 use crate::pass::pass;
 use crate::pass::staked_seats;
 use answer::outcome::Outcome;
-use broken::broken;
 use call::refusal::asked;
 use cards::hand::empty_hand;
 use cards::hand::with_card;
@@ -25,6 +25,7 @@ use state::round::is_dealt;
 use table::Table;
 
 fn deal_number(t: Table) -> u8
+    requires { ⌜ broken t ≡ false ⌝ }
     ensures { λ r. ⌜ r ≡ first (dealConditions t) ⌝ }
 {
     let o = t.options;
@@ -32,19 +33,15 @@ fn deal_number(t: Table) -> u8
     let left = cards_left(t);
     let sums = table_sums(t);
     asked(
-        1,
-        broken(t),
+        4,
+        is_dealt(t),
         asked(
-            4,
-            is_dealt(t),
+            6,
+            sums.cover == 0,
             asked(
-                6,
-                sums.cover == 0,
-                asked(
-                    16,
-                    t.tray < sums.cover,
-                    asked(17, left <= behind, asked(17, left < deal_takes(t), 0)),
-                ),
+                16,
+                t.tray < sums.cover,
+                asked(17, left <= behind, asked(17, left < deal_takes(t), 0)),
             ),
         ),
     )
@@ -70,6 +67,7 @@ fn dealt(t: Table) -> Table
 }
 
 pub fn deal(t: Table) -> Outcome
+    requires { ⌜ broken t ≡ false ⌝ }
     ensures { λ r. ⌜ r ≡ outcome (dealConditions t) (dealEffect t) t ⌝ }
 {
     let number = deal_number(t);

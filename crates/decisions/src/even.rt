@@ -1,8 +1,10 @@
 // even: a natural against an ace or ten-value leaves with its stake won, paid at close (document 01, "The seventeen calls", the guest; article 10 n.º 3).
 ghost use mathlib.Core.Path.{_≡_};
+ghost use mathlib.Core.Bool.{false};
 ghost use Rattle.call.specs.Refusal.{first};
 ghost use Rattle.answer.specs.Outcome.{outcome};
 ghost use Rattle.decisions_spec.specs.Even.{evenConditions, evenEffect};
+ghost use Rattle.table.specs.Broken.{broken};
 use crate::end::answer;
 use crate::turn::may_take;
 use crate::turn::turn_number;
@@ -16,6 +18,7 @@ use table::Table;
 
 // Behind the conditions in turn: 13 the rules do not permit it to that hand.
 fn even_number(t: Table, at: At) -> u8
+    requires { ⌜ broken t ≡ false ⌝ }
     ensures { λ r. ⌜ r ≡ first (evenConditions t (at .seat)) ⌝ }
 {
     let number = turn_number(t, at);
@@ -28,6 +31,7 @@ fn even_number(t: Table, at: At) -> u8
 }
 
 pub fn even(t: Table, at: At) -> Outcome
+    requires { ⌜ broken t ≡ false ⌝ }
     ensures { λ r. ⌜ r ≡ outcome (evenConditions t (at .seat)) (evenEffect t (at .seat)) t ⌝ }
 {
     let number = even_number(t, at);

@@ -1,8 +1,10 @@
 // five: a hand of exactly five cards leaves with half its stake won, paid at close (document 01, "The seventeen calls", the guest; article 19).
 ghost use mathlib.Core.Path.{_≡_};
+ghost use mathlib.Core.Bool.{false};
 ghost use Rattle.call.specs.Refusal.{first};
 ghost use Rattle.answer.specs.Outcome.{outcome};
 ghost use Rattle.decisions_spec.specs.Five.{fiveConditions, fiveEffect};
+ghost use Rattle.table.specs.Broken.{broken};
 use crate::end::answer;
 use crate::turn::may_take;
 use crate::turn::turn_number;
@@ -16,6 +18,7 @@ use table::Table;
 
 // Behind the conditions in turn: 13 the rules do not permit it to that hand.
 fn five_number(t: Table, at: At) -> u8
+    requires { ⌜ broken t ≡ false ⌝ }
     ensures { λ r. ⌜ r ≡ first (fiveConditions t (at .seat)) ⌝ }
 {
     let number = turn_number(t, at);
@@ -28,6 +31,7 @@ fn five_number(t: Table, at: At) -> u8
 }
 
 pub fn five(t: Table, at: At) -> Outcome
+    requires { ⌜ broken t ≡ false ⌝ }
     ensures { λ r. ⌜ r ≡ outcome (fiveConditions t (at .seat)) (fiveEffect t (at .seat)) t ⌝ }
 {
     let number = five_number(t, at);

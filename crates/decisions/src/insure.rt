@@ -1,15 +1,17 @@
 // insure: an amount from purse to layout, with an ace up, before the round's first accepted decision, once a seat (document 01, "The seventeen calls",
 // the guest; article 12).
 ghost use mathlib.Core.Path.{_≡_};
-ghost use Prim.Native.Nat.{_-_, _≤_};
+ghost use mathlib.Core.Bool.{false};
+ghost use Prim.Native.Nat.{_≤_};
 ghost use Rattle.call.specs.Refusal.{first};
 ghost use Rattle.answer.specs.Outcome.{outcome};
-ghost use Rattle.table.specs.Seat.{purse, stake, makeSeat, money as moneyOf};
+ghost use Rattle.table.specs.Guest.{insuring};
+ghost use Rattle.table.specs.Seat.{purse, stake, withMoney};
 ghost use Rattle.decisions_spec.specs.Insure.{insureConditions, insureEffect};
+ghost use Rattle.table.specs.Broken.{broken};
 use crate::progress::any_decided;
 use answer::conditions::seat_number;
 use answer::outcome::Outcome;
-use broken::broken;
 use call::At;
 use call::refusal::asked;
 use cards::card::is_ace;
@@ -24,7 +26,7 @@ use table::Table;
 // The seat with n of its purse laid as insurance.
 fn insured(s: Seat, n: u64) -> Seat
     requires { ⌜ (n ≤ purse s) × (n ≤ stake s) ⌝ }
-    ensures { λ r. ⌜ r ≡ makeSeat (moneyOf (purse s - n) (stake s) n) (s .hands) ⌝ }
+    ensures { λ r. ⌜ r ≡ withMoney s (insuring (s .money) n) ⌝ }
 {
     let mut money = s.money;
     money.purse = money.purse - n;
@@ -37,10 +39,11 @@ fn insured(s: Seat, n: u64) -> Seat
 // Behind the conditions of every call of a seat: 9 insured already, 10 no stake, 12 a decision was taken, 13 no ace up, 14 nothing or not the option's
 // part of the stake, 15 not in the purse.
 fn insure_number(t: Table, at: At, n: u64) -> u8
+    requires { ⌜ broken t ≡ false ⌝ }
     ensures { λ r. ⌜ r ≡ first (insureConditions t (at .seat) n) ⌝ }
 {
     let o = t.options;
-    let early = seat_number(broken(t), 5, !is_dealt(t), o.seats, at.seat);
+    let early = seat_number(5, !is_dealt(t), o.seats, at.seat);
     if early != 0 {
         return early;
     }
@@ -71,6 +74,7 @@ fn insure_number(t: Table, at: At, n: u64) -> u8
 }
 
 pub fn insure(t: Table, at: At, n: u64) -> Outcome
+    requires { ⌜ broken t ≡ false ⌝ }
     ensures { λ r. ⌜ r ≡ outcome (insureConditions t (at .seat) n) (insureEffect t (at .seat) n) t ⌝ }
 {
     let number = insure_number(t, at, n);

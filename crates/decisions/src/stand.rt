@@ -1,7 +1,9 @@
 // stand: the hand whose turn it is ends (document 01, "The seventeen calls", the guest; article 6 2)). Every waiting hand may stand, so 13 is never given.
 ghost use mathlib.Core.Path.{_≡_};
+ghost use mathlib.Core.Bool.{false};
 ghost use Rattle.answer.specs.Outcome.{outcome};
 ghost use Rattle.decisions_spec.specs.Stand.{standConditions, standEffect};
+ghost use Rattle.table.specs.Broken.{broken};
 use crate::end::answer;
 use crate::turn::turn_number;
 use answer::outcome::Outcome;
@@ -10,6 +12,7 @@ use rules::seat_hand::BY_STAND;
 use table::Table;
 
 pub fn stand(t: Table, at: At) -> Outcome
+    requires { ⌜ broken t ≡ false ⌝ }
     ensures { λ r. ⌜ r ≡ outcome (standConditions t (at .seat)) (standEffect t (at .seat)) t ⌝ }
 {
     let number = turn_number(t, at);

@@ -1,17 +1,18 @@
 // surrender: out of turn, before anyone has drawn, doubled or split in this round, the seat's hand leaves with half its stake lost, paid at close
 // (document 01, "The seventeen calls", the guest; article 18).
 ghost use mathlib.Core.Path.{_≡_};
+ghost use mathlib.Core.Bool.{false};
 ghost use Prim.Native.Nat.{_<_};
 ghost use Rattle.call.specs.Refusal.{first};
 ghost use Rattle.rules.specs.SeatHand.{bySurrender};
 ghost use Rattle.answer.specs.Outcome.{outcome};
 ghost use Rattle.decisions_spec.specs.Place.{placeOf, withPlace, endedBy};
 ghost use Rattle.decisions_spec.specs.Surrender.{surrenderConditions, surrenderEffect};
+ghost use Rattle.table.specs.Broken.{broken};
 use crate::progress::any_drew;
 use crate::turn::with_place;
 use answer::conditions::seat_number;
 use answer::outcome::Outcome;
-use broken::broken;
 use call::At;
 use call::refusal::asked;
 use cards::card::is_ace;
@@ -26,10 +27,11 @@ use table::Table;
 
 // Behind the conditions of every call of a seat: 10 no stake, 12 somebody has drawn, 12 the seat's hand does not wait, 13 an ace up.
 fn surrender_number(t: Table, at: At) -> u8
+    requires { ⌜ broken t ≡ false ⌝ }
     ensures { λ r. ⌜ r ≡ first (surrenderConditions t (at .seat)) ⌝ }
 {
     let o = t.options;
-    let early = seat_number(broken(t), 5, !is_dealt(t), o.seats, at.seat);
+    let early = seat_number(5, !is_dealt(t), o.seats, at.seat);
     if early != 0 {
         return early;
     }
@@ -69,6 +71,7 @@ fn surrendered(t: Table, at: At) -> Table
 }
 
 pub fn surrender(t: Table, at: At) -> Outcome
+    requires { ⌜ broken t ≡ false ⌝ }
     ensures { λ r. ⌜ r ≡ outcome (surrenderConditions t (at .seat)) (surrenderEffect t (at .seat)) t ⌝ }
 {
     let number = surrender_number(t, at);

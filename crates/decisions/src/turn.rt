@@ -1,15 +1,15 @@
 // What the six decisions in turn share: their conditions, the hand whose turn it is, what the rules permit to it, and a hand put back in its place.
 // Public for the decisions that draw cards (crate draw). `waiting_hand` and `may_take` ask that a hand of the seat waits, as one does behind `turn_number` 0.
 ghost use mathlib.Core.Path.{_≡_};
-ghost use mathlib.Core.Bool.{true};
+ghost use mathlib.Core.Bool.{true, false};
 ghost use Rattle.call.specs.Refusal.{first};
 ghost use Rattle.decisions_spec.specs.Place.{placeOf, withPlace};
 ghost use Rattle.decisions_spec.specs.Turn.{turnConditions};
 ghost use Rattle.table.specs.Seat.{hands as handsOf};
 ghost use Rattle.rules.specs.Turn.{seatWaits, waitingPlace};
 ghost use Rattle.decisions.specs.MayTake.{mayTakeBy};
+ghost use Rattle.table.specs.Broken.{broken};
 use answer::conditions::seat_number;
-use broken::broken;
 use call::At;
 use call::refusal::asked;
 use options::Options;
@@ -31,10 +31,11 @@ use table::Table;
 
 // Behind the conditions of every call of a seat: 10 no stake, 11 not that seat's turn.
 pub fn turn_number(t: Table, at: At) -> u8
+    requires { ⌜ broken t ≡ false ⌝ }
     ensures { λ r. ⌜ r ≡ first (turnConditions t (at .seat)) ⌝ }
 {
     let o = t.options;
-    let early = seat_number(broken(t), 5, !is_dealt(t), o.seats, at.seat);
+    let early = seat_number(5, !is_dealt(t), o.seats, at.seat);
     if early != 0 {
         return early;
     }

@@ -30,7 +30,8 @@ use Rattle.history.specs.Hands.{played, missingHand, nextCard, grown}
 use Rattle.history.specs.Money.{lays, wins}
 use Rattle.table.specs.declared.Money.{Money}
 use Rattle.table.specs.declared.Table.{Table}
-use Rattle.table.specs.Seat.{money, purse, stake, insurance, hands}
+use Rattle.table.specs.Guest.{withPurse}
+use Rattle.table.specs.Seat.{purse, stake, hands}
 use Rattle.table.specs.Shoe.{withDrawn}
 use Rattle.table.specs.Table.{seatAt, up, tableOrder, cardsLeft}
 use Rattle.table.specs.Broken.{soundOrigin, soundEnding}
@@ -111,7 +112,7 @@ module _ (t : Table) (e : Entry) (j more code : ℕ) (shaped : Shaped t) (sound 
   won = prize (t .options) (stake (seatAt t j)) (playedOf (grownHand t j code))
 
   abbrev new-money : Money
-  new-money = money (purse (seatAt t j) - more + won) (stake (seatAt t j)) (insurance (seatAt t j))
+  new-money = withPurse (seatAt t j .money) (purse (seatAt t j) - more + won)
 
   full : length (waitingHandOf t j .hand .cards) ≡ 20
   full = w .seat .shaped .twenty-cards (waitingPlaceOf t j) (omega (arith, w .here, w .seat .few))

@@ -1,10 +1,11 @@
 -- A decision, or an insurance: what a call of a guest in a dealt round must give so that any sound table stays sound and one that agrees with a
 -- history still does. It lays `more`, wins `won` and draws k cards.
 use mathlib.Core.Path.{_≡_, refl, sym, _∙_, ap, subst}
-use mathlib.Core.Bool.{Bool, true, false, cond, _||_, and-true}
+use mathlib.Core.Bool.{Bool, true, false, cond, and-true}
 use mathlib.Core.List.{List, _∷_}
 use Prim.Native.Nat.{ℕ, _+_, _*_, _≤_, _<_}
 use native.Mathlib.Omega.{arith}
+use lib.Dec.{ltb}
 use lib.IntN.{pos}
 use lib.ListN.{length, getD, take, length-append}
 use borrow.Author.Tests.{ltb-true, eq-eqb, ne-eqb}
@@ -12,8 +13,9 @@ use Rattle.lists.specs.Sum.{sumOf}
 use Rattle.options.specs.declared.Options.{Options}
 use Rattle.rules.specs.SeatHand.{Played}
 use Rattle.rules.specs.Turn.{waitingPlace}
-use Rattle.call.specs.Call.{kind, seat}
-use Rattle.history.specs.Entry.{Entry, isOf, isKind, isStake, isDeal, isInsure, isSurrender, isDecision, isEnd, isLoad, isFill, isCredit, isBuy, isCash, amountOf}
+use Rattle.payment.specs.Cover.{cover}
+use Rattle.call.specs.Call.{seat}
+use Rattle.history.specs.Entry.{Entry, isOf, isDeal, isInsure, isSurrender, isDecision, isEnd, amountOf}
 use Rattle.history.specs.Rounds.{stakeIn, insuranceIn, stakedBelow}
 use Rattle.history.specs.Cards.{Cards, callTakes, cardsOfHistory}
 use Rattle.history.specs.Hands.{turnIn, decide, surrenders, handsAfter, handsIn}
@@ -28,6 +30,7 @@ use Rattle.table.specs.Shape.{Shaped, ShapedSeat}
 use Rattle.table.specs.Aids.Sound.{Sound, SoundSeat, Insured, Playing}
 use Rattle.table.proofs.SeatChange.{changed, SeatChange, change-shaped, change-money, change-sound}
 use Rattle.agreement.specs.Aids.Agrees.{SeatAgrees, CardsAgree, Good}
+use Rattle.agreement.proofs.Groups.{InGroup, ofGuest, not-fill, not-credit, not-load, not-buy, not-cash, not-stake, not-deal, not-end}
 use Rattle.agreement.proofs.Quiet.{hands-stay}
 use Rattle.agreement.proofs.Events.{Events}
 use Rattle.agreement.proofs.OneSeat.{SeatCall, one-call}
@@ -40,40 +43,17 @@ use Rattle.decisions_spec.proofs.Turn.{TurnAccepted, history-turn}
 abbrev pub makes : List Played → ℕ → Cards → Entry → List Played
 makes hands p c e = cond (isDecision e) (cond (isSurrender e) (surrenders hands) (decide hands p c e)) hands
 
--- insurance and the decisions of seat j: kinds 7 to 14
+-- insurance and the decisions of seat j
 pub record Guest (e : Entry) (j : ℕ) : Type 0 where
-  pub least : 7 ≤ kind (e .call)
-  pub most : kind (e .call) ≤ 14
+  pub among : InGroup e ofGuest
   pub seat-is : seat (e .call) ≡ j
 
 module _ (e : Entry) (j : ℕ) (g : Guest e j) where
-  -- other kinds it is none of
-  pub no-kind : (n : ℕ) → (kind (e .call) ≡ n → ⊥) → isKind n e ≡ false
-  no-kind n other = ne-eqb (kind (e .call)) n other
+  no-end : isEnd e ≡ false
+  no-end = not-end e (g .among) refl
 
-  not-end : isEnd e ≡ false
-  not-end = simp (no-kind 15 (λ h. omega arith), no-kind 16 (λ h. omega arith))
-
-  pub not-deal : isDeal e ≡ false
-  not-deal = no-kind 6 (λ h. omega arith)
-
-  not-load : isLoad e ≡ false
-  not-load = no-kind 17 (λ h. omega arith)
-
-  pub not-stake : isStake e ≡ false
-  not-stake = no-kind 5 (λ h. omega arith)
-
-  not-buy : isBuy e ≡ false
-  not-buy = no-kind 3 (λ h. omega arith)
-
-  not-cash : isCash e ≡ false
-  not-cash = no-kind 4 (λ h. omega arith)
-
-  none-goes : isCredit e || isCash e ≡ false
-  none-goes = simp (no-kind 2 (λ h. omega arith), not-cash)
-
-  none-comes : isFill e || isBuy e ≡ false
-  none-comes = simp (no-kind 1 (λ h. omega arith), not-buy)
+  no-deal : isDeal e ≡ false
+  no-deal = not-deal e (g .among) refl
 
   pub of-seat : isOf j e ≡ true
   of-seat = eq-eqb (seat (e .call)) j (g .seat-is)
@@ -84,10 +64,10 @@ module _ (e : Entry) (j : ℕ) (g : Guest e j) where
   -- the history's values of the seat after it
   module _ (o : Options) (opening : List ℕ) (es : List Entry) where
     stake-after : stakeIn (e ∷ es) j ≡ stakeIn es j
-    stake-after = simp (not-end, not-stake)
+    stake-after = simp (no-end, not-stake e (g .among) refl)
 
     insurance-after : insuranceIn (e ∷ es) j ≡ cond (isInsure e) (amountOf e) (insuranceIn es j)
-    insurance-after = simp (not-end, of-seat, and-true)
+    insurance-after = simp (no-end, of-seat, and-true)
 
     -- a decision in turn goes to the seat, and no other seat's hands change
     module _ (goes : isDecision e ≡ true → isSurrender e ≡ false → turnIn o (cardsOfHistory o opening es) (λ k. handsIn o opening es k) ≡ j) where
@@ -99,28 +79,28 @@ module _ (e : Entry) (j : ℕ) (g : Guest e j) where
           go : (d b : Bool) → isDecision e ≡ d → isSurrender e ≡ b
               → handsIn o opening (e ∷ es) j
               ≡ cond d (cond b (surrenders (handsIn o opening es j)) (decide (handsIn o opening es j) (waitingPlace o (getD (c .bank) 0 0) (handsIn o opening es j)) c e)) (handsIn o opening es j)
-          go false b decides out = hands-stay o opening es j e not-deal not-end decides
-          go true true decides out = simp (not-deal, not-end, out, of-seat)
-          go true false decides out = simp (not-deal, not-end, out, eq-eqb j _ (sym (goes decides out)), same)
+          go false b decides out = hands-stay o opening es j e no-deal no-end decides
+          go true true decides out = simp (no-deal, no-end, out, of-seat)
+          go true false decides out = simp (no-deal, no-end, out, eq-eqb j _ (sym (goes decides out)), same)
 
       hands-others : (i : ℕ) → (i ≡ j → ⊥) → handsIn o opening (e ∷ es) i ≡ handsIn o opening es i
       unfolding handsAfter
       hands-others i other = go (isDecision e) (isSurrender e) refl refl
         where
           go : (d b : Bool) → isDecision e ≡ d → isSurrender e ≡ b → handsIn o opening (e ∷ es) i ≡ handsIn o opening es i
-          go false b decides out = hands-stay o opening es i e not-deal not-end decides
-          go true true decides out = simp (not-deal, not-end, out, of-other i other)
-          go true false decides out = simp (not-deal, not-end, out, ne-eqb i _ (λ h. other (h ∙ goes decides out)))
+          go false b decides out = hands-stay o opening es i e no-deal no-end decides
+          go true true decides out = simp (no-deal, no-end, out, of-other i other)
+          go true false decides out = simp (no-deal, no-end, out, ne-eqb i _ (λ h. other (h ∙ goes decides out)))
 
     laid-after : laidIn (e ∷ es) j ≡ lays j (stakeIn es j) e + laidIn es j
-    laid-after = simp not-end
+    laid-after = simp no-end
 
     prizes-after : prizesIn o opening (e ∷ es) j ≡ prizeOf o opening es j e + prizesIn o opening es j
-    prizes-after = simp not-end
+    prizes-after = simp no-end
 
     purse-after : (x next : ℕ) → pos x ≡ purseOf o opening es j → next + lays j (stakeIn es j) e ≡ x + prizeOf o opening es j e
         → pos next ≡ purseOf o opening (e ∷ es) j
-    purse-after x next p h = purse-moves o opening es j e not-end x next p (simp (not-buy, not-cash) (omega arith))
+    purse-after x next p h = purse-moves o opening es j e no-end x next p (simp (not-buy e (g .among) refl, not-cash e (g .among) refl) (omega arith))
 
 -- k cards are drawn and go elsewhere
 pub record Draws (t : Table) (shoe : Shoe) (k : ℕ) : Type 0 where
@@ -181,7 +161,8 @@ module _ (t : Table) (e : Entry) (j tray : ℕ) (s : Seat) (shoe : Shoe) (k more
               playing = λ some. d .playing;
               prizes-back = omega (arith, was .prizes-back);
             };
-        same-stake = λ dealt. d .same-stake;
+        same-staked = λ dealt. ap (ltb 0) (d .same-stake);
+        same-cover = λ dealt. ap cover (d .same-stake);
         paid = omega arith;
         in-limit = omega (arith, sound .money);
         prizes-paid = λ dealt. omega arith;
@@ -240,10 +221,11 @@ module _ (opening : List ℕ) (es : List Entry) (t : Table) (e : Entry) (j tray 
 
   call : SeatCall opening es t e j tray s shoe k
   call =
+      let among = d .guest .among in
       record {
-        not-end = not-end e j (d .guest);
-        not-deal = not-deal e j (d .guest);
-        not-load = not-load e j (d .guest);
+        not-end = not-end e among refl;
+        not-deal = not-deal e among refl;
+        not-load = not-load e among refl;
         of-other = of-other e j (d .guest);
         takes = d .takes (stakedBelow es (t .options .seats)) (cardsOfHistory (t .options) opening es);
         same-order = d .draws .same-order;
@@ -252,7 +234,7 @@ module _ (opening : List ℕ) (es : List Entry) (t : Table) (e : Entry) (j tray 
         others = hands-others e j (d .guest) (t .options) opening es goes;
         events = d .events;
         seat = seat-agrees;
-        money = simp (none-goes e j (d .guest), none-comes e j (d .guest)) (omega (arith, change-money t j tray s shoe k 0 0 (good .shaped) (good .sound) (change t e j tray s shoe k more won (good .sound) d)));
+        money = simp (not-fill e among refl, not-credit e among refl, not-buy e among refl, not-cash e among refl) (omega (arith, change-money t j tray s shoe k 0 0 (good .shaped) (good .sound) (change t e j tray s shoe k more won (good .sound) d)));
       }
 
 -- what a call decides: from the conditions, on any sound table

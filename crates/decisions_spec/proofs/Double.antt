@@ -77,7 +77,7 @@ module _ (t : Table) (at : At) (order : List ℕ) where
   growing =
       let j = at .seat in
       record {
-        guest = record { least = omega arith; most = omega arith; seat-is = refl };
+        guest = record { among = refl; seat-is = refl };
         no-insure = refl;
         gives = refl;
         takes = λ staked c. refl;

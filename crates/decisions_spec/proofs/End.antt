@@ -23,10 +23,11 @@ use Rattle.table.specs.Broken.{soundOrigin, soundEnding}
 use Rattle.table.specs.Shape.{Shaped}
 use Rattle.table.specs.Aids.Sound.{Sound}
 use Rattle.table.proofs.SeatHands.{how-many, hand-is}
+use Rattle.agreement.proofs.Groups.{not-stake, not-deal, not-close}
 use Rattle.agreement.proofs.Events.{Events, ending}
 use Rattle.decisions_spec.specs.Place.{placeOf, withPlace, endedBy}
 use Rattle.decisions_spec.specs.Turn.{waitingPlaceOf, endEffect}
-use Rattle.decisions_spec.proofs.Decision.{makes, Guest, no-kind, not-deal, not-stake, of-seat, draws-none, Decision}
+use Rattle.decisions_spec.proofs.Decision.{makes, Guest, of-seat, draws-none, Decision}
 use Rattle.decisions_spec.proofs.Acting.{Waiting}
 use Rattle.decisions_spec.proofs.Turn.{TurnAccepted, turn-waiting}
 use Rattle.decisions_spec.proofs.HandChange.{HandChange, hand-decided}
@@ -55,11 +56,11 @@ module _ (t : Table) (e : Entry) (j p code : ℕ) (d : Ends t e j p code) where
 
   lays-none : (S : ℕ) → lays j S e ≡ 0
   unfolding lays
-  lays-none S = simp (not-stake e j (d .guest), plains .0, plains .2, plains .3, of-seat e j (d .guest))
+  lays-none S = simp (not-stake e (d .guest .among) refl, plains .0, plains .2, plains .3, of-seat e j (d .guest))
 
   takes-none : (staked : ℕ) (c : Cards) → callTakes (t .options) staked c e ≡ 0
   unfolding callTakes
-  takes-none staked c = simp (not-deal e j (d .guest), plains .1, plains .2, plains .3, no-kind e j (d .guest) 15 (λ h. omega arith))
+  takes-none staked c = simp (not-deal e (d .guest .among) refl, plains .1, plains .2, plains .3, not-close e (d .guest .among) refl)
 
   -- the hand keeps its cards and has ended
   end-events : Waiting t j p → Events e (hands (seatAt t j)) (set (hands (seatAt t j)) p (playedOf (endedBy (placeOf (seatAt t j) p) code)))

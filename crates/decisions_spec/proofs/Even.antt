@@ -37,5 +37,5 @@ even-decides t at order shaped sound e =
     let fits : evenOpen (up t) h ≡ true =
     and-eq-true-iff (waits (t .options) (up t) (length (hands (seatAt t (at .seat)))) h) (evenOpen (up t) h) .0 (not-false (mayTake permitsEven t (at .seat)) permitted) .1 in
     let ends : Ends t (entry (Even at) order) (at .seat) (waitingPlaceOf t (at .seat)) byEven =
-    record { guest = record { least = omega arith; most = omega arith; seat-is = refl }; plain = refl; ends-one = refl; decides = λ c. refl; some-code = omega arith; fits = fits; single = λ h. omega arith } in
+    record { guest = record { among = refl; seat-is = refl }; plain = refl; ends-one = refl; decides = λ c. refl; some-code = omega arith; fits = fits; single = λ h. omega arith } in
     end-in-turn t (entry (Even at) order) (at .seat) byEven ends shaped sound turn

@@ -37,5 +37,5 @@ five-decides t at order shaped sound e =
     let fits : fiveOpen (t .options) (up t) h ≡ true =
     and-eq-true-iff (waits (t .options) (up t) (length (hands (seatAt t (at .seat)))) h) (fiveOpen (t .options) (up t) h) .0 (not-false (mayTake permitsFive t (at .seat)) permitted) .1 in
     let ends : Ends t (entry (Five at) order) (at .seat) (waitingPlaceOf t (at .seat)) byFive =
-    record { guest = record { least = omega arith; most = omega arith; seat-is = refl }; plain = refl; ends-one = refl; decides = λ c. refl; some-code = omega arith; fits = fits; single = λ h. omega arith } in
+    record { guest = record { among = refl; seat-is = refl }; plain = refl; ends-one = refl; decides = λ c. refl; some-code = omega arith; fits = fits; single = λ h. omega arith } in
     end-in-turn t (entry (Five at) order) (at .seat) byFive ends shaped sound turn

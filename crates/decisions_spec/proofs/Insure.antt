@@ -2,7 +2,7 @@
 use mathlib.Core.Path.{_≡_, refl, sym}
 use mathlib.Core.Bool.{true, and-false, true≢false}
 use mathlib.Core.List.{List}
-use Prim.Native.Nat.{ℕ, _-_, _≤_}
+use Prim.Native.Nat.{ℕ, _≤_}
 use native.Mathlib.Omega.{arith}
 use borrow.Author.Tests.{ltb-false, eq-eqb, not-false}
 use Rattle.lists.specs.Sum.{sumOf}
@@ -17,7 +17,8 @@ use Rattle.history.specs.Cards.{callTakes}
 use Rattle.history.specs.Money.{lays, wins}
 use Rattle.table.specs.declared.Seat.{Seat}
 use Rattle.table.specs.declared.Table.{Table}
-use Rattle.table.specs.Seat.{money, makeSeat, purse, stake, insurance, hands, prizes}
+use Rattle.table.specs.Guest.{insuring}
+use Rattle.table.specs.Seat.{withMoney, purse, stake, insurance, hands, prizes}
 use Rattle.table.specs.Table.{seatAt, up}
 use Rattle.options.specs.Permitted.{insurancePermitted}
 use Rattle.table.specs.Shape.{Shaped, ShapedSeat}
@@ -52,7 +53,7 @@ insure-accepted t j n e =
 
 -- the seat after it
 abbrev insured-seat : Table → ℕ → ℕ → Seat
-insured-seat t j n = makeSeat (money (purse (seatAt t j) - n) (stake (seatAt t j)) n) (seatAt t j .hands)
+insured-seat t j n = withMoney (seatAt t j) (insuring (seatAt t j .money) n)
 
 module _ (t : Table) (at : At) (n : ℕ) (order : List ℕ) (sound : Sound t) (a : InsureAccepted t (at .seat) n) where
   decided : Staked t (at .seat) → Decided t (entry (Insure at n) order) (at .seat) (t .tray) (insured-seat t (at .seat) n) (t .shoe) 0 n 0
@@ -60,7 +61,7 @@ module _ (t : Table) (at : At) (n : ℕ) (order : List ℕ) (sound : Sound t) (a
   decided seat =
       let shaped : ShapedSeat (insured-seat t (at .seat) n) = record { four-places = seat .shaped .four-places; twenty-cards = seat .shaped .twenty-cards } in
       record {
-        guest = record { least = omega arith; most = omega arith; seat-is = refl };
+        guest = record { among = refl; seat-is = refl };
         acting = a .acting;
         shaped-seat = shaped;
         same-stake = refl;

@@ -1,13 +1,16 @@
--- Behind the conditions in turn a hand of the seat waits; with what the call asks behind them, that is all that its rule asks of the hand.
+-- Behind the conditions in turn a hand of the seat waits; with what the call asks behind them, that is all that its rule asks of the hand. A number of
+-- one of these parts says that the part fails, and the rule with it.
 use mathlib.Core.Path.{_≡_, refl, sym, _∙_, ap}
-use mathlib.Core.Bool.{true}
-use mathlib.Core.List.{[], append-nil}
+use mathlib.Core.Bool.{Bool, true, false, not, _||_, and-false, true≢false}
+use mathlib.Core.List.{List, [], _∷_, append-nil}
 use Prim.Native.Nat.{ℕ, _<_}
 use native.Mathlib.Omega.{arith}
+use lib.Dec.{leb}
 use lib.ListN.{length}
-use borrow.Author.Tests.{ltb-true, lt-ltb, leb-false, not-false}
-use Rattle.lists.specs.Tests.{allOf}
-use Rattle.lists.proofs.Tests.{first-inside, first-passes}
+use borrow.Author.Tests.{ltb-true, lt-ltb, le-ltb, leb-true, leb-false, not-false}
+use Rattle.lists.specs.Tests.{anyOf, allOf}
+use Rattle.lists.proofs.Tests.{first-inside, first-passes, any-not-at}
+use Rattle.cards.specs.Card.{isAce}
 use Rattle.cards.specs.Hand.{cardsOf}
 use Rattle.cards.specs.Pair.{isPair}
 use Rattle.rules.specs.SeatHand.{playedOf}
@@ -16,20 +19,24 @@ use Rattle.rules.specs.Turn.{seatWaits}
 use Rattle.rules.specs.Permits.{permitsStand, permitsSplit}
 use Rattle.rules.specs.Leaving.{permitsSurrender}
 use Rattle.rules.proofs.seat_hand.Places.{many-hands, hand-at}
-use Rattle.call.specs.Refusal.{first}
-use Rattle.call.proofs.Refusals.{none-hold}
+use Rattle.call.specs.Refusal.{Condition, first}
+use Rattle.call.proofs.Refusals.{first-holds, first-past, none-hold}
 use Rattle.table.specs.declared.Table.{Table}
 use Rattle.table.specs.Seat.{missingPlace, hands}
-use Rattle.table.specs.Table.{seatAt, up}
+use Rattle.table.specs.Table.{seatAt, noSuchSeat, up}
+use Rattle.table.specs.Broken.{broken}
 use Rattle.table.specs.Shape.{Shaped}
-use Rattle.answer.specs.Conditions.{seatConditions}
+use Rattle.table.proofs.Facts.{unbroken}
+use Rattle.table.proofs.SeatHands.{how-many}
+use Rattle.answer.specs.Conditions.{inRound, seatConditions, noStake}
 use Rattle.table.specs.Progress.{anyDrew}
 use Rattle.decisions_spec.specs.Place.{placeOf}
-use Rattle.decisions_spec.specs.Turn.{waitingPlaceOf, waitingHandOf, mayTake}
+use Rattle.decisions_spec.specs.Turn.{turnConditions, waitingPlaceOf, waitingHandOf, mayTake}
 use Rattle.decisions_spec.specs.Stand.{standConditions}
 use Rattle.decisions_spec.specs.Split.{splitConditions}
 use Rattle.decisions_spec.specs.Surrender.{surrenderConditions}
 use Rattle.decisions_spec.specs.Permitted.{Permitted}
+use Rattle.decisions_spec.proofs.Acting.{Acting, acting, staked-seat}
 use Rattle.decisions_spec.proofs.Turn.{TurnAccepted, turn-accepted}
 use Rattle.decisions_spec.proofs.Surrender.{surrender-accepted, not-split}
 
@@ -69,5 +76,58 @@ module _ (t : Table) (shaped : Shaped t) (j : ℕ) where
       let waiting = rw only at (hand-waits (a .acting .nine) (a .waits)) in
       simp (waiting, a .early, no-ace)
 
+  -- a refused one: the number is that of a part that fails
+  split-barred : first (splitConditions t j) ≡ 13 → mayTake permitsSplit t j ≡ false
+  unfolding splitConditions turnConditions seatConditions permitsSplit anyOf
+  split-barred e = go (isPair (cardsOf (waitingHandOf t j .hand))) (leb (t .options .hands) (length (hands (seatAt t j)))) refl refl (first-holds (splitConditions t j) 13 (λ z. omega arith) e)
+    where
+      go : (pair full : Bool) → isPair (cardsOf (waitingHandOf t j .hand)) ≡ pair → leb (t .options .hands) (length (hands (seatAt t j))) ≡ full → not pair || (full || false) ≡ true → mayTake permitsSplit t j ≡ false
+      go false full p f some = simp (p, and-false)
+      go true true p f some = simp (le-ltb _ _ (leb-true (t .options .hands) (length (hands (seatAt t j))) f), and-false)
+      go true false p f some = absurd (true≢false (sym some))
+
+  -- a staked seat none of whose hands waits has a hand in place 0, which does not wait
+  idle : Acting t j → seatWaits (t .options) (up t) (hands (seatAt t j)) ≡ false → waits (t .options) (up t) (length (hands (seatAt t j))) (playedOf (placeOf (seatAt t j) 0)) ≡ false
+  idle act none =
+      let s = seatAt t j in
+      let seat = staked-seat t shaped (unbroken t (act .unbroken)) j act in
+      let inside : 0 < length (hands s) = omega (arith, how-many s 0 (seat .shaped) (seat .few) (seat .some), seat .some) in
+      ap (waits (t .options) (up t) (length (hands s))) (sym (hand-at (s .hands) 0 missingPlace (seat .some)))
+      ∙ any-not-at (waits (t .options) (up t) (length (hands s))) (hands s) 0 (playedOf missingPlace) inside none
+
+  abbrev mayLeave : Bool
+  mayLeave = permitsSurrender (t .options) (up t) (anyDrew t) (length (hands (seatAt t j))) (playedOf (placeOf (seatAt t j) 0))
+
+  surrender-late : first (surrenderConditions t j) ≡ 12 → mayLeave ≡ false
+  unfolding surrenderConditions seatConditions permitsSurrender anyOf allOf
+  surrender-late e = go (anyDrew t) (seatWaits (t .options) (up t) (hands (seatAt t j))) refl refl (first-holds (surrenderConditions t j) 12 (λ z. omega arith) e)
+    where
+      act : Acting t j
+      act =
+          let asked-first : List Condition = (1, broken t) ∷ inRound t ∷ (8, noSuchSeat t j) ∷ noStake t j ∷ [] in
+          let (whole, (in-round, (such-seat, (staked, _)))) = none-hold asked-first refl (first-past asked-first _ 12 refl e) in
+          acting t j whole in-round such-seat staked
+
+      go : (late some-waits : Bool) → anyDrew t ≡ late → seatWaits (t .options) (up t) (hands (seatAt t j)) ≡ some-waits → late || (not some-waits || false) ≡ true → mayLeave ≡ false
+      go true some-waits l s some = simp (l, and-false)
+      go false true l s some = absurd (true≢false (sym some))
+      go false false l s some = simp (idle act s)
+
+  surrender-barred : first (surrenderConditions t j) ≡ 13 → mayLeave ≡ false
+  unfolding surrenderConditions seatConditions permitsSurrender anyOf
+  surrender-barred e = go (isAce (up t)) refl (first-holds (surrenderConditions t j) 13 (λ z. omega arith) e)
+    where
+      go : (ace : Bool) → isAce (up t) ≡ ace → ace || false ≡ true → mayLeave ≡ false
+      go true a some = simp (a, and-false)
+      go false a some = absurd (true≢false (sym some))
+
   pub permitted : Permitted t j
-  permitted = record { stand = stand-permitted; split = split-permitted; surrender = surrender-permitted }
+  permitted =
+      record {
+        stand = stand-permitted;
+        split = split-permitted;
+        surrender = surrender-permitted;
+        split-barred = split-barred;
+        surrender-late = surrender-late;
+        surrender-barred = surrender-barred;
+      }

@@ -36,7 +36,8 @@ use Rattle.history.specs.Money.{lays, wins}
 use Rattle.table.specs.declared.Money.{Money}
 use Rattle.table.specs.declared.Seat.{Seat}
 use Rattle.table.specs.declared.Table.{Table}
-use Rattle.table.specs.Seat.{money, purse, stake, insurance, hands, laid, prizes, seatCards}
+use Rattle.table.specs.Guest.{withPurse}
+use Rattle.table.specs.Seat.{purse, stake, hands, laid, prizes, seatCards}
 use Rattle.table.specs.Shoe.{withDrawn}
 use Rattle.table.specs.Table.{seatAt, up, cardsLeft, tableShoe}
 use Rattle.table.specs.Broken.{soundOrigin, soundEnding}
@@ -125,7 +126,7 @@ module _ (t : Table) (at : At) (order : List ℕ) (shaped : Shaped t) (sound : S
   new = splitHand kept-second drawn-second
 
   abbrev new-money : Money
-  new-money = money (purse s - stake s) (stake s) (insurance s)
+  new-money = withPurse (s .money) (purse s - stake s)
 
   abbrev now : Seat
   now = with-two s new-money p parent new
@@ -203,7 +204,7 @@ module _ (t : Table) (at : At) (order : List ℕ) (shaped : Shaped t) (sound : S
   unfolding lays wins callTakes
   decided =
       record {
-        guest = record { least = omega arith; most = omega arith; seat-is = refl };
+        guest = record { among = refl; seat-is = refl };
         acting = w .seat .acting;
         shaped-seat = now-shaped;
         same-stake = refl;

@@ -26,5 +26,5 @@ pub stand-decides : (t : Table) (at : At) (order : List ℕ) → Shaped t → So
 unfolding turnConditions seatConditions allOf decide soundEnding
 stand-decides t at order shaped sound e =
     let ends : Ends t (entry (Stand at) order) (at .seat) (waitingPlaceOf t (at .seat)) byStand =
-    record { guest = record { least = omega arith; most = omega arith; seat-is = refl }; plain = refl; ends-one = refl; decides = λ c. refl; some-code = omega arith; fits = refl; single = λ h. omega arith } in
+    record { guest = record { among = refl; seat-is = refl }; plain = refl; ends-one = refl; decides = λ c. refl; some-code = omega arith; fits = refl; single = λ h. omega arith } in
     end-in-turn t (entry (Stand at) order) (at .seat) byStand ends shaped sound (turn-accepted t (at .seat) [] refl e .0)

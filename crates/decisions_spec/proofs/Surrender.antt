@@ -89,5 +89,5 @@ surrender-decides t at order shaped sound e =
     let a = surrender-accepted t (at .seat) e in
     let w = first-waiting t (at .seat) shaped sound a in
     let ends : Ends t (entry (Surrender at) order) (at .seat) 0 bySurrender =
-    record { guest = record { least = omega arith; most = omega arith; seat-is = refl }; plain = refl; ends-one = refl; decides = λ c. refl; some-code = omega arith; fits = surrendered t (at .seat) shaped a w; single = λ h. omega arith } in
+    record { guest = record { among = refl; seat-is = refl }; plain = refl; ends-one = refl; decides = λ c. refl; some-code = omega arith; fits = surrendered t (at .seat) shaped a w; single = λ h. omega arith } in
     end-decides t (entry (Surrender at) order) (at .seat) 0 bySurrender ends shaped sound (λ in-turn. absurd (true≢false in-turn)) w

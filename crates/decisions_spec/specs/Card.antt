@@ -7,7 +7,8 @@ use Rattle.rules.specs.declared.seat_hand.SeatHand.{SeatHand}
 use Rattle.rules.specs.SeatHand.{playedOf}
 use Rattle.payment.specs.Prize.{prize}
 use Rattle.table.specs.declared.Table.{Table}
-use Rattle.table.specs.Seat.{money, makeSeat, purse, stake, insurance}
+use Rattle.table.specs.Guest.{withPurse}
+use Rattle.table.specs.Seat.{makeSeat, purse, stake}
 use Rattle.table.specs.Shoe.{withDrawn}
 use Rattle.table.specs.Table.{makeTable, seatAt}
 use Rattle.decisions_spec.specs.Turn.{waitingPlaceOf, waitingHandOf}
@@ -28,5 +29,5 @@ cardEffect more code t j =
     let won = prize (t .options) (stake s) (playedOf h) in
     makeTable (t .options) (t .tray - won)
     (set (t .seats) j
-    (makeSeat (money (purse s - more + won) (stake s) (insurance s)) (record { places = set (s .hands .places) (waitingPlaceOf t j) h; many = s .hands .many })))
+    (makeSeat (withPurse (s .money) (purse s - more + won)) (record { places = set (s .hands .places) (waitingPlaceOf t j) h; many = s .hands .many })))
     (t .bank) (withDrawn (t .shoe) 1)

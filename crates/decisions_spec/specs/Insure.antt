@@ -2,12 +2,13 @@
 -- refused, and the table after it: n goes from the purse to the layout.
 use mathlib.Core.Bool.{not}
 use mathlib.Core.List.{List, [], _∷_, _++_}
-use Prim.Native.Nat.{ℕ, _-_}
+use Prim.Native.Nat.{ℕ}
 use lib.Dec.{ltb, eqb}
 use Rattle.call.specs.Refusal.{Condition}
 use Rattle.cards.specs.Card.{isAce}
 use Rattle.table.specs.declared.Table.{Table}
-use Rattle.table.specs.Seat.{money, makeSeat, purse, stake, insurance}
+use Rattle.table.specs.Guest.{insuring}
+use Rattle.table.specs.Seat.{withMoney, purse, stake, insurance}
 use Rattle.table.specs.Table.{withSeat, seatAt, up}
 use Rattle.options.specs.Permitted.{insurancePermitted}
 use Rattle.table.specs.Progress.{anyDecided}
@@ -26,4 +27,4 @@ insureConditions t j n =
     ∷ []
 
 unfoldable pub insureEffect : Table → ℕ → ℕ → Table
-insureEffect t j n = withSeat t j (makeSeat (money (purse (seatAt t j) - n) (stake (seatAt t j)) n) (seatAt t j .hands))
+insureEffect t j n = withSeat t j (withMoney (seatAt t j) (insuring (seatAt t j .money) n))

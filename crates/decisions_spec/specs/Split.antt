@@ -12,7 +12,8 @@ use Rattle.cards.specs.Pair.{isPair}
 use Rattle.rules.specs.declared.seat_hand.SeatHand.{SeatHand}
 use Rattle.rules.specs.SeatHand.{split, splitAces, notEnded}
 use Rattle.table.specs.declared.Table.{Table}
-use Rattle.table.specs.Seat.{money, makeSeat, purse, stake, insurance, hands}
+use Rattle.table.specs.Guest.{withPurse}
+use Rattle.table.specs.Seat.{makeSeat, purse, stake, hands}
 use Rattle.table.specs.Shoe.{withDrawn}
 use Rattle.table.specs.Table.{makeTable, seatAt, cardsLeft}
 use Rattle.decisions_spec.specs.Turn.{turnConditions, waitingPlaceOf, waitingHandOf}
@@ -48,6 +49,6 @@ splitEffect t j =
     let new = splitHand (pairCardOf t j 1) (cardAhead t 1) in
     makeTable (t .options) (t .tray)
     (set (t .seats) j
-    (makeSeat (money (purse s - stake s) (stake s) (insurance s))
+    (makeSeat (withPurse (s .money) (purse s - stake s))
     (record { places = splitPlaces (s .hands .places) (waitingPlaceOf t j) parent new; many = s .hands .many + 1 })))
     (t .bank) (withDrawn (t .shoe) 2)

@@ -1,8 +1,10 @@
 // double: S more, one card, and the hand ends (document 01, "The seventeen calls", the guest; article 17).
 ghost use mathlib.Core.Path.{_≡_};
+ghost use mathlib.Core.Bool.{false};
 ghost use Rattle.call.specs.Refusal.{first};
 ghost use Rattle.answer.specs.Outcome.{outcome};
 ghost use Rattle.decisions_spec.specs.Double.{doubleConditions, doubleEffect};
+ghost use Rattle.table.specs.Broken.{broken};
 use crate::card::with_next_card;
 use answer::outcome::Outcome;
 use call::At;
@@ -17,6 +19,7 @@ use table::Table;
 
 // Behind the conditions in turn: 13 the rules do not permit it to that hand, 15 the purse is below the stake, 18 no card is left.
 fn double_number(t: Table, at: At) -> u8
+    requires { ⌜ broken t ≡ false ⌝ }
     ensures { λ r. ⌜ r ≡ first (doubleConditions t (at .seat)) ⌝ }
 {
     let number = turn_number(t, at);
@@ -36,6 +39,7 @@ fn double_number(t: Table, at: At) -> u8
 }
 
 pub fn double(t: Table, at: At) -> Outcome
+    requires { ⌜ broken t ≡ false ⌝ }
     ensures { λ r. ⌜ r ≡ outcome (doubleConditions t (at .seat)) (doubleEffect t (at .seat)) t ⌝ }
 {
     let number = double_number(t, at);

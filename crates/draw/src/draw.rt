@@ -1,8 +1,10 @@
 // draw: one card more for the hand whose turn it is (document 01, "The seventeen calls", the guest; article 6 4)).
 ghost use mathlib.Core.Path.{_≡_};
+ghost use mathlib.Core.Bool.{false};
 ghost use Rattle.call.specs.Refusal.{first};
 ghost use Rattle.answer.specs.Outcome.{outcome};
 ghost use Rattle.decisions_spec.specs.Draw.{drawConditions, drawEffect};
+ghost use Rattle.table.specs.Broken.{broken};
 use crate::card::with_next_card;
 use answer::outcome::Outcome;
 use call::At;
@@ -17,6 +19,7 @@ use table::Table;
 
 // Behind the conditions in turn: 13 the rules do not permit it to that hand, 18 no card is left.
 fn draw_number(t: Table, at: At) -> u8
+    requires { ⌜ broken t ≡ false ⌝ }
     ensures { λ r. ⌜ r ≡ first (drawConditions t (at .seat)) ⌝ }
 {
     let number = turn_number(t, at);
@@ -30,6 +33,7 @@ fn draw_number(t: Table, at: At) -> u8
 }
 
 pub fn draw(t: Table, at: At) -> Outcome
+    requires { ⌜ broken t ≡ false ⌝ }
     ensures { λ r. ⌜ r ≡ outcome (drawConditions t (at .seat)) (drawEffect t (at .seat)) t ⌝ }
 {
     let number = draw_number(t, at);

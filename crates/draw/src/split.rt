@@ -1,6 +1,7 @@
 // split: the hand whose turn it is, a pair, becomes two, and the stake is laid again for the new one (document 01, "The seventeen calls", the guest;
 // article 16).
 ghost use mathlib.Core.Path.{_≡_};
+ghost use mathlib.Core.Bool.{false};
 ghost use Prim.Native.Nat.{_<_};
 ghost use lib.ListN.{getD};
 ghost use Rattle.cards.specs.Hand.{cardsOf};
@@ -8,6 +9,7 @@ ghost use Rattle.call.specs.Refusal.{first as firstOf};
 ghost use Rattle.answer.specs.Outcome.{outcome};
 ghost use Rattle.decisions_spec.specs.Split.{splitConditions, splitEffect, splitHand, splitPlaces};
 ghost use Rattle.draw.specs.Aids.Splits.{splitSeat, Pays, Splits};
+ghost use Rattle.table.specs.Broken.{broken};
 use answer::outcome::Outcome;
 use call::At;
 use call::refusal::asked;
@@ -130,6 +132,7 @@ fn split_table(t: Table, at: At) -> Table
 
 // Behind the conditions in turn: 13 no pair, 13 the seat's hands are used up, 15 the purse is below the stake, 18 fewer than two cards are left.
 fn split_number(t: Table, at: At) -> u8
+    requires { ⌜ broken t ≡ false ⌝ }
     ensures { λ r. ⌜ r ≡ firstOf (splitConditions t (at .seat)) ⌝ }
 {
     let number = turn_number(t, at);
@@ -156,6 +159,7 @@ fn split_number(t: Table, at: At) -> u8
 }
 
 pub fn split(t: Table, at: At) -> Outcome
+    requires { ⌜ broken t ≡ false ⌝ }
     ensures { λ r. ⌜ r ≡ outcome (splitConditions t (at .seat)) (splitEffect t (at .seat)) t ⌝ }
 {
     let number = split_number(t, at);

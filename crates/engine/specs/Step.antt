@@ -65,29 +65,29 @@ effect t Close order = closeEffect t
 effect t Void order = voidEffect t
 effect t Load order = loadEffect t order
 
--- What an accepted call shows: only close shows anything.
-abbrev pub shown : Table → Call → Shown
-shown t (Fill n) = emptyShown
-shown t (Credit n) = emptyShown
-shown t (Buy at n) = emptyShown
-shown t (Cash at n) = emptyShown
-shown t (Stake at n) = emptyShown
-shown t Deal = emptyShown
-shown t (Insure at n) = emptyShown
-shown t (Stand at) = emptyShown
-shown t (Draw at) = emptyShown
-shown t (Double at) = emptyShown
-shown t (Split at) = emptyShown
-shown t (Surrender at) = emptyShown
-shown t (Even at) = emptyShown
-shown t (Five at) = emptyShown
-shown t Close = closeShown t
-shown t Void = emptyShown
-shown t Load = emptyShown
+-- What an accepted call shows, `after` being the table that it leaves: only close shows anything.
+abbrev pub shown : Table → Call → Table → Shown
+shown t (Fill n) after = emptyShown
+shown t (Credit n) after = emptyShown
+shown t (Buy at n) after = emptyShown
+shown t (Cash at n) after = emptyShown
+shown t (Stake at n) after = emptyShown
+shown t Deal after = emptyShown
+shown t (Insure at n) after = emptyShown
+shown t (Stand at) after = emptyShown
+shown t (Draw at) after = emptyShown
+shown t (Double at) after = emptyShown
+shown t (Split at) after = emptyShown
+shown t (Surrender at) after = emptyShown
+shown t (Even at) after = emptyShown
+shown t (Five at) after = emptyShown
+shown t Close after = closeShown t
+shown t Void after = emptyShown
+shown t Load after = emptyShown
 
 -- One step: the answer and the next table.
 unfoldable pub step : Table → Call → List ℕ → ReplyView
-step t c order = replyBy (conditions t c order) (shown t c) (effect t c order) t
+step t c order = replyBy (conditions t c order) (shown t c (effect t c order)) (effect t c order) t
 
 -- Its number, and the table that the next call gets.
 unfoldable pub number : Table → Call → List ℕ → ℕ

@@ -11,9 +11,7 @@ use Rattle.payment.specs.declared.bank.Score.{Score}
 use Rattle.rules.specs.SeatHand.{Played}
 use Rattle.payment.specs.Bank.{scoreOf}
 use Rattle.rules.specs.Turn.{waitingPlace}
-use Rattle.payment.specs.Pay.{net}
-use Rattle.payment.specs.HandPay.{handPay}
-use Rattle.payment.specs.Insurance.{insurancePay}
+use Rattle.payment.specs.Pays.{paysOf, netsOf}
 use Rattle.payment.specs.Prize.{prize}
 use Rattle.history.specs.Entry.{Entry, isOf, isFill, isCredit, isBuy, isCash, isStake, isInsure, isDraw, isDouble, isSplit, isClose, isVoid, isEnd, amountOf}
 use Rattle.history.specs.Rounds.{stakeIn, insuranceIn}
@@ -70,21 +68,17 @@ module _ (o : Options) (opening : List ℕ) where
   prizesIn [] i = 0
   prizesIn (e ∷ es) i = cond (isEnd e) 0 (prizeOf es i e + prizesIn es i)
 
-  -- The nets of a seat's hands and of its insurance, if the round closes now.
+  -- The nets of all that is paid to a seat, if the round closes now.
   abbrev pub closingScore : List Entry → Score
   closingScore es = scoreOf (bankFinal o (cardsOfHistory o opening es))
 
-  abbrev pub handNets : Score → ℕ → List Played → ℤ
-  handNets bank S [] = pos 0
-  handNets bank S (h ∷ hs) = net (handPay o bank S h) +ℤ handNets bank S hs
-
-  abbrev pub netsOf : List Entry → ℕ → ℤ
-  netsOf es i = handNets (closingScore es) (stakeIn es i) (handsIn o opening es i) +ℤ net (insurancePay (closingScore es) (insuranceIn es i))
+  abbrev pub netsIn : List Entry → ℕ → ℤ
+  netsIn es i = netsOf (paysOf o (closingScore es) (stakeIn es i) (insuranceIn es i) (handsIn o opening es i))
 
   -- What a call adds that ends a round: for a closed round what the seat laid and its nets; for a voided round what it laid less its prizes.
   abbrev pub endBrings : List Entry → ℕ → Entry → ℤ
   endBrings es i e =
-      cond (isClose e) (pos (laidIn es i) +ℤ netsOf es i)
+      cond (isClose e) (pos (laidIn es i) +ℤ netsIn es i)
       (cond (isVoid e) (pos (laidIn es i) -ℤ pos (prizesIn es i))
       (pos 0))
 

@@ -8,6 +8,8 @@ pub mod Prize
 pub mod Pay
 pub mod HandPay
 pub mod Insurance
+-- All that is paid to a guest at close.
+pub mod Pays
 -- The cover that the tray must hold.
 pub mod Cover
 -- The rehearsal hands that are proved together as one table.

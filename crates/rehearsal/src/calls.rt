@@ -1,4 +1,4 @@
-// The calls of the script: each row is one step, and a line shows its answer and the table after it.
+// The calls of the script: each row is one step, and a line shows its answer and the table after it. The arrays for pay lines are lent to all of them.
 ghost use Prim.Native.Nat.{_≤_};
 use crate::lines;
 use crate::stage::Stage;
@@ -6,6 +6,7 @@ use crate::stage::lent;
 use answer::reply::Reply;
 use call::At;
 use call::Call;
+use call::pay_line::LINES;
 use engine::step;
 use script::digit;
 use script::number;
@@ -36,64 +37,116 @@ fn call_of(letter: u8, at: At, amount: u64) -> Call {
 }
 
 // As many draws of a seat as the amount says, at most twenty; the answer of the last.
-fn drawn(t: Table, at: At, times: u64) -> Reply {
-    let mut s = step(t, Call::Draw(at), b"");
+fn drawn(t: Table, at: At, times: u64, names: &mut [u32; LINES], nets: &mut [i64; LINES]) -> Reply {
+    let mut s = step(t, Call::Draw(at), b"", names, nets);
     for i in 1u64..20 {
         if i < times {
-            s = step(s.table, Call::Draw(at), b"");
+            s = step(s.table, Call::Draw(at), b"", names, nets);
         }
     }
     s
 }
 
 // Every seat below the number buys the amount and stakes it.
-fn all_staked(t: Table, seats: u8, amount: u64) -> Table {
+fn all_staked(
+    t: Table,
+    seats: u8,
+    amount: u64,
+    names: &mut [u32; LINES],
+    nets: &mut [i64; LINES],
+) -> Table {
     let mut next = t;
     for seat in 0u8..seats {
-        let bought = step(next, Call::Buy(At { seat }, amount), b"");
-        let staked = step(bought.table, Call::Stake(At { seat }, amount), b"");
+        let bought = step(next, Call::Buy(At { seat }, amount), b"", names, nets);
+        let staked = step(
+            bought.table,
+            Call::Stake(At { seat }, amount),
+            b"",
+            names,
+            nets,
+        );
         next = staked.table;
     }
     next
 }
 
 // And takes it home.
-fn all_cashed(t: Table, seats: u8, amount: u64) -> Table {
+fn all_cashed(
+    t: Table,
+    seats: u8,
+    amount: u64,
+    names: &mut [u32; LINES],
+    nets: &mut [i64; LINES],
+) -> Table {
     let mut next = t;
     for seat in 0u8..seats {
-        let cashed = step(next, Call::Cash(At { seat }, amount), b"");
+        let cashed = step(next, Call::Cash(At { seat }, amount), b"", names, nets);
         next = cashed.table;
     }
     next
 }
 
 // The shoe run down by one deal: stakes, the deal and a void. The answer is the deal's.
-fn run_down(t: Table, seats: u8, amount: u64) -> Reply {
-    let mut dealt = step(all_staked(t, seats, amount), Call::Deal, b"");
-    let voided = step(dealt.table, Call::Void, b"");
-    dealt.table = all_cashed(voided.table, seats, amount);
+fn run_down(
+    t: Table,
+    seats: u8,
+    amount: u64,
+    names: &mut [u32; LINES],
+    nets: &mut [i64; LINES],
+) -> Reply {
+    let staked = all_staked(t, seats, amount, names, nets);
+    let mut dealt = step(staked, Call::Deal, b"", names, nets);
+    let voided = step(dealt.table, Call::Void, b"", names, nets);
+    dealt.table = all_cashed(voided.table, seats, amount, names, nets);
     dealt
 }
 
 // A call with the first of these cards for its order.
-fn reply_to(cards: [u8; 416], count: usize, t: Table, c: Call) -> Reply {
-    step(t, c, &cards[..lent(count)])
+fn reply_to(
+    cards: [u8; 416],
+    count: usize,
+    t: Table,
+    c: Call,
+    names: &mut [u32; LINES],
+    nets: &mut [i64; LINES],
+) -> Reply {
+    step(t, c, &cards[..lent(count)], names, nets)
 }
 
 // What a row plays.
-fn played(t: Table, letter: u8, at: At, amount: u64, order: Order) -> Reply {
+fn played(
+    t: Table,
+    letter: u8,
+    at: At,
+    amount: u64,
+    order: Order,
+    names: &mut [u32; LINES],
+    nets: &mut [i64; LINES],
+) -> Reply {
     match letter {
-        b'm' => drawn(t, at, amount),
-        b'w' => run_down(t, at.seat, amount),
+        b'm' => drawn(t, at, amount, names, nets),
+        b'w' => run_down(t, at.seat, amount, names, nets),
         _ => {
             let cards = order.cards;
-            reply_to(cards, order.count, t, call_of(letter, at, amount))
+            reply_to(
+                cards,
+                order.count,
+                t,
+                call_of(letter, at, amount),
+                names,
+                nets,
+            )
         }
     }
 }
 
 // One row: at 2 stands the seat, at 4 the amount, at 21 the words.
-pub(crate) fn called(s: Stage, row: &[u8]) -> Stage
+pub(crate) fn called(
+    s: Stage,
+    row: &[u8],
+    names: &mut [u32; LINES],
+    nets: &mut [i64; LINES],
+) -> Stage
     requires { do ⌜ 21 ≤ (← ⟦row.len()⟧) ⌝ }
 {
     let t = s.table;
@@ -103,10 +156,10 @@ pub(crate) fn called(s: Stage, row: &[u8]) -> Stage
         seat: digit(row[2]),
     };
     let amount = number(&row[4..20]);
-    let after = played(t, letter, at, amount, order);
+    let after = played(t, letter, at, amount, order, names, nets);
     let table = after.table;
     let answer = after.answer;
-    lines::called(letter, answer, table, &row[21..]);
+    lines::called(letter, answer, names, nets, table, &row[21..]);
     let mut next = s;
     next.table = table;
     next

@@ -1,10 +1,11 @@
 // What the rehearsal writes: a line for each call, then the table or the pay lines that a row asks for.
 ghost use Prim.Native.Nat.{_≤_, _+_};
 use answer::reply::Answer;
-use answer::settlement::PayLines;
-use answer::settlement::Settlement;
-use call::INSURANCE;
-use call::PayLine;
+use call::pay_line::INSURANCE;
+use call::pay_line::LINES;
+use call::pay_line::line_kind;
+use call::pay_line::line_place;
+use call::pay_line::line_seat;
 use cards::hand::Hand;
 use cards::hand::held;
 use display::hand::HandShown;
@@ -111,37 +112,35 @@ fn net(n: i64) {
     io::print_decimal(STDOUT_FILENO, size(n));
 }
 
-fn pay_line(l: PayLine) {
-    counted(b"  seat", l.seat as u64);
-    if l.kind == INSURANCE {
+fn pay_line(name: u32, n: i64) {
+    counted(b"  seat", line_seat(name) as u64);
+    if line_kind(name) == INSURANCE {
         words(b" insurance");
     } else {
-        counted(b" hand", l.place as u64);
+        counted(b" hand", line_place(name) as u64);
     }
-    net(l.net);
+    net(n);
     words(b"\n");
 }
 
-fn pay_lines(l: PayLines) {
-    let n = l.count;
-    for i in 0usize..45 {
+fn pay_lines(names: &[u32; LINES], nets: &[i64; LINES], n: usize) {
+    for i in 0usize..LINES {
         if i < n {
-            let line = l.lines[i];
-            pay_line(line);
+            pay_line(names[i], nets[i]);
         }
     }
 }
 
 // What close shows: the bank's cards and the pay lines.
-fn settlement(s: Settlement) {
-    let bank = s.bank;
+fn settlement(answer: Answer, names: &[u32; LINES], nets: &[i64; LINES]) {
+    let bank = answer.bank;
     if bank.count == 0 {
         return;
     }
     words(b"  bank");
     cards(bank);
     words(b"\n");
-    pay_lines(s.lines);
+    pay_lines(names, nets, answer.lines);
 }
 
 // The place of a letter among letters, or their number where it is none of them.
@@ -168,10 +167,17 @@ fn name(letter: u8) {
 }
 
 // The line of a call, and what it shows.
-pub(crate) fn called(letter: u8, answer: Answer, t: Table, what: &[u8]) {
+pub(crate) fn called(
+    letter: u8,
+    answer: Answer,
+    names: &[u32; LINES],
+    nets: &[i64; LINES],
+    t: Table,
+    what: &[u8],
+) {
     name(letter);
     figures(answer.number, t, what);
-    settlement(answer.settlement);
+    settlement(answer, names, nets);
 }
 
 // The code as a place, or the last one.

@@ -6,6 +6,7 @@ use crate::houses::ordered;
 use crate::lines;
 use crate::stage::Stage;
 use crate::stage::first_stage;
+use call::pay_line::LINES;
 use script::digit;
 use script::end_of;
 
@@ -23,7 +24,7 @@ fn row_shown(s: Stage, row: &[u8])
 }
 
 // What the row asks of the stage.
-fn row_played(s: Stage, row: &[u8]) -> Stage
+fn row_played(s: Stage, row: &[u8], names: &mut [u32; LINES], nets: &mut [i64; LINES]) -> Stage
     requires { do ⌜ 21 ≤ (← ⟦row.len()⟧) ⌝ }
 {
     let letter = row[0];
@@ -35,18 +36,20 @@ fn row_played(s: Stage, row: &[u8]) -> Stage
             row_shown(s, row);
             s
         }
-        _ => called(s, row),
+        _ => called(s, row, names, nets),
     }
 }
 
 // Each row long enough to be one.
 pub(crate) fn each(text: &[u8]) {
     let mut s = first_stage();
+    let mut names = [0u32; LINES];
+    let mut nets = [0i64; LINES];
     let mut at = 0;
     while at < text.len() {
         let end = end_of(text, at);
         if 21 <= end - at {
-            s = row_played(s, &text[at..end]);
+            s = row_played(s, &text[at..end], &mut names, &mut nets);
         }
         at = end + 1;
     }

@@ -1,6 +1,7 @@
 // The marked session of document 01. Header and call names are fixed byte strings; every figure is read from the answer and the table that a step gave.
 use call::At;
 use call::Call;
+use call::pay_line::LINES;
 use cashier::opening::opening;
 use display::shown_table;
 use engine::step;
@@ -104,8 +105,15 @@ fn row(name: &[u8], number: u8, t: Table) {
 }
 
 // One call, its line, and the table after it.
-fn play(name: &[u8], t: Table, c: Call, order: &[u8]) -> Table {
-    let s = step(t, c, order);
+fn play(
+    name: &[u8],
+    t: Table,
+    c: Call,
+    order: &[u8],
+    names: &mut [u32; LINES],
+    nets: &mut [i64; LINES],
+) -> Table {
+    let s = step(t, c, order, names, nets);
     let answer = s.answer;
     let next = s.table;
     row(name, answer.number, next);
@@ -116,18 +124,34 @@ fn main() {
     let cards = marked_order();
     let order: &[u8] = &cards;
     let at = At { seat: 2 };
+    let mut names = [0u32; LINES];
+    let mut nets = [0i64; LINES];
     io::write_all(STDOUT_FILENO, b"call no tray layout purses left\n");
     let opened = opening(house(), order);
     let mut t = opened.table;
     row(b"open", opened.number, t);
-    t = play(b"fill", t, Call::Fill(1000), order);
-    t = play(b"buy", t, Call::Buy(at, 100), order);
-    t = play(b"stake", t, Call::Stake(at, 20), order);
-    t = play(b"deal", t, Call::Deal, order);
-    t = play(b"insure", t, Call::Insure(at, 10), order);
-    t = play(b"split", t, Call::Split(at), order);
-    t = play(b"double", t, Call::Double(at), order);
-    t = play(b"stand", t, Call::Stand(at), order);
-    t = play(b"close", t, Call::Close, order);
-    play(b"stand", t, Call::Stand(at), order);
+    t = play(b"fill", t, Call::Fill(1000), order, &mut names, &mut nets);
+    t = play(b"buy", t, Call::Buy(at, 100), order, &mut names, &mut nets);
+    t = play(
+        b"stake",
+        t,
+        Call::Stake(at, 20),
+        order,
+        &mut names,
+        &mut nets,
+    );
+    t = play(b"deal", t, Call::Deal, order, &mut names, &mut nets);
+    t = play(
+        b"insure",
+        t,
+        Call::Insure(at, 10),
+        order,
+        &mut names,
+        &mut nets,
+    );
+    t = play(b"split", t, Call::Split(at), order, &mut names, &mut nets);
+    t = play(b"double", t, Call::Double(at), order, &mut names, &mut nets);
+    t = play(b"stand", t, Call::Stand(at), order, &mut names, &mut nets);
+    t = play(b"close", t, Call::Close, order, &mut names, &mut nets);
+    play(b"stand", t, Call::Stand(at), order, &mut names, &mut nets);
 }

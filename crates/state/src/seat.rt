@@ -1,7 +1,8 @@
 // A seat taken out of the table and put back, and another purse for it.
 ghost use mathlib.Core.Path.{_≡_};
 ghost use Prim.Native.Nat.{_<_};
-ghost use Rattle.table.specs.Seat.{withPurse};
+ghost use Rattle.table.specs.Guest.{withPurse};
+ghost use Rattle.table.specs.Seat.{withMoney};
 ghost use Rattle.table.specs.Table.{seatAt, withSeat};
 use table::Seat;
 use table::Table;
@@ -38,7 +39,7 @@ pub fn with_seat(t: Table, i: usize, s: Seat) -> Table
 
 // The seat with another purse.
 pub fn with_purse(s: Seat, purse: u64) -> Seat
-    ensures { λ r. ⌜ r ≡ withPurse s purse ⌝ }
+    ensures { λ r. ⌜ r ≡ withMoney s (withPurse (s .money) purse) ⌝ }
 {
     let mut money = s.money;
     money.purse = purse;

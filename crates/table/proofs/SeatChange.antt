@@ -3,7 +3,6 @@ use mathlib.Core.Path.{_≡_, _∙_, ap}
 use mathlib.Core.Bool.{true}
 use Prim.Native.Nat.{ℕ, _+_, _*_, _≤_, _<_}
 use native.Mathlib.Omega.{arith}
-use lib.Dec.{ltb}
 use lib.ListN.{length, take, set, length-set, length-take, length-drop}
 use lib.Seq.{take-add}
 use Rattle.lists.specs.Sum.{sumOf, isIt}
@@ -14,7 +13,7 @@ use Rattle.options.proofs.Facts.{in-range-facts}
 use Rattle.table.specs.declared.Seat.{Seat}
 use Rattle.table.specs.declared.Shoe.{Shoe}
 use Rattle.table.specs.declared.Table.{Table}
-use Rattle.table.specs.Seat.{missingSeat, purse, stake, isStaked, laid, prizes, seatCards, seatCover}
+use Rattle.table.specs.Seat.{missingSeat, purse, isStaked, laid, prizes, seatCards, seatCover}
 use Rattle.table.specs.Shoe.{discardsOf}
 use Rattle.table.specs.Table.{makeTable, seatAt, isDealt, up, bankCards, tableDrawn, tableShoe, tableDiscards}
 use Rattle.table.specs.Money.{mostMoney, allMoney}
@@ -35,7 +34,8 @@ pub record SeatChange (t : Table) (j tray : ℕ) (s : Seat) (shoe : Shoe) (k cam
   pub within : j < t .options .seats
   pub shaped-seat : ShapedSeat s
   pub sound-seat : SoundSeat (t .options) (isDealt t) (up t) j s
-  pub same-stake : isDealt t ≡ true → stake s ≡ stake (seatAt t j)
+  pub same-staked : isDealt t ≡ true → isStaked s ≡ isStaked (seatAt t j)
+  pub same-cover : isDealt t ≡ true → seatCover s ≡ seatCover (seatAt t j)
   pub paid : tray + laid s + purse s + went ≡ t .tray + laid (seatAt t j) + purse (seatAt t j) + came
   pub in-limit : allMoney t + came ≤ mostMoney + went
   pub prizes-paid : isDealt t ≡ true → tray + prizes (t .options) s ≡ t .tray + prizes (t .options) (seatAt t j)
@@ -92,7 +92,7 @@ module _ (t : Table) (j tray : ℕ) (s : Seat) (shoe : Shoe) (k came went : ℕ)
     number = omega (arith, out-cards (λ x. 1), all-drawn, sum-ones (outCards (changed t j tray s shoe)), sum-ones (outCards t), sum-ones (take k (tableShoe t)));
     seats = λ i h. holds-set (SoundSeat (t .options) (isDealt t) (up t)) (t .seats) j i s missingSeat here (ch .sound-seat) (sound .seats i h);
     bank = sound .bank;
-    round = λ dealt. any-set isStaked (t .seats) j s missingSeat (ap (ltb 0) (ch .same-stake dealt)) ∙ sound .round dealt;
+    round = λ dealt. any-set isStaked (t .seats) j s missingSeat (ch .same-staked dealt) ∙ sound .round dealt;
     money = omega (arith, change-money);
-    cover = λ dealt. omega (arith, over-seats seatCover, over-seats (prizes (t .options)), ch .same-stake dealt, ch .prizes-paid dealt, sound .cover dealt);
+    cover = λ dealt. omega (arith, over-seats seatCover, over-seats (prizes (t .options)), ch .same-cover dealt, ch .prizes-paid dealt, sound .cover dealt);
   }

@@ -1,4 +1,5 @@
 -- The state, its views, its money and its faces, and when it is broken.
+pub mod Guest
 pub mod Seat
 pub mod Shoe
 pub mod Table

@@ -16,10 +16,7 @@ use Rattle.payment.specs.Prize.{prize}
 use Rattle.payment.specs.Cover.{cover}
 use Rattle.table.specs.declared.Money.{Money}
 use Rattle.table.specs.declared.Seat.{Seat}
-
--- A guest's money.
-abbrev pub money : ℕ → ℕ → ℕ → Money
-money purse stake insurance = record { purse = purse; stake = stake; insurance = insurance }
+use Rattle.table.specs.Guest.{holding}
 
 abbrev pub makeSeat : Money → SeatHands → Seat
 makeSeat m hands = record { money = m; hands = hands }
@@ -33,18 +30,18 @@ emptyHands = record { places = replicate 4 emptyPlace; many = 0 }
 
 -- A seat with no money and no hand.
 abbrev pub emptySeat : Seat
-emptySeat = makeSeat (money 0 0 0) emptyHands
+emptySeat = makeSeat (holding 0) emptyHands
 
 -- A seat at the end of a round: no stake, no insurance and no hand, and this purse.
 abbrev pub clearedSeat : ℕ → Seat
-clearedSeat purse = makeSeat (money purse 0 0) emptyHands
+clearedSeat purse = makeSeat (holding purse) emptyHands
 
 -- What stands where a seat has no such place, or the table no such seat.
 abbrev pub missingPlace : SeatHand
 missingPlace = record { hand = record { cards = []; count = 0 }; origin = dealt; ended = notEnded }
 
 abbrev pub missingSeat : Seat
-missingSeat = makeSeat (money 0 0 0) (record { places = []; many = 0 })
+missingSeat = makeSeat (holding 0) (record { places = []; many = 0 })
 
 -- The seat's purse, its stake S and its insurance; 0 where there is none.
 abbrev pub purse : Seat → ℕ
@@ -56,9 +53,9 @@ stake s = s .money .stake
 abbrev pub insurance : Seat → ℕ
 insurance s = s .money .insurance
 
--- The seat with another purse.
-abbrev pub withPurse : Seat → ℕ → Seat
-withPurse s p = makeSeat (money p (stake s) (insurance s)) (s .hands)
+-- The seat with other money.
+abbrev pub withMoney : Seat → Money → Seat
+withMoney s m = makeSeat m (s .hands)
 
 -- The seat has a stake.
 abbrev pub isStaked : Seat → Bool

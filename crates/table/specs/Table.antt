@@ -13,7 +13,8 @@ use Rattle.rules.specs.SeatHand.{Played}
 use Rattle.table.specs.declared.Seat.{Seat}
 use Rattle.table.specs.declared.Shoe.{Shoe}
 use Rattle.table.specs.declared.Table.{Table}
-use Rattle.table.specs.Seat.{withPurse, missingSeat, isStaked, hands, seatCards}
+use Rattle.table.specs.Guest.{withPurse}
+use Rattle.table.specs.Seat.{withMoney, missingSeat, isStaked, hands, seatCards}
 use Rattle.table.specs.Shoe as Shoes
 
 abbrev pub makeTable : Options → ℕ → List Seat → Hand → Shoe → Table
@@ -39,7 +40,7 @@ noSuchSeat t j = leb (t .options .seats) j
 
 -- The table with another purse for that seat.
 abbrev pub withPurseAt : Table → ℕ → ℕ → Table
-withPurseAt t j p = withSeat t j (withPurse (seatAt t j) p)
+withPurseAt t j p = withSeat t j (withMoney (seatAt t j) (withPurse (seatAt t j .money) p))
 
 -- The hands of each seat, by seat and place.
 abbrev pub seatsHands : Table → List (List Played)

@@ -1,7 +1,7 @@
 -- A call of a seat asks 1, its phase and 8 first: their number is the call's, or none of them holds, the seat is one of the nine, and what is asked
 -- behind them decides.
 use mathlib.Core.Path.{_≡_, sym, _∙_}
-use mathlib.Core.Bool.{Bool, true}
+use mathlib.Core.Bool.{Bool, true, false}
 use mathlib.Core.List.{List, [], _∷_, _++_}
 use Prim.Native.Nat.{ℕ, _<_}
 use lib.Dec.{ltb}
@@ -14,11 +14,11 @@ use Rattle.table.specs.Broken.{broken}
 use Rattle.table.proofs.Facts.{seat-of-nine}
 use Rattle.answer.specs.Conditions.{seatConditions}
 
--- the answers that the code has read are the table's
-pub seat-asked : (t : Table) (j phase : ℕ) (damaged wrong holds : Bool) (n : ℕ) → n ≡ first ((1, damaged) ∷ (phase, wrong) ∷ (8, noSuchSeat t j) ∷ [])
-    → damaged ≡ broken t → wrong ≡ holds → n ≡ first (seatConditions (phase, holds) t j)
+-- the answers that the code has read are the table's, which is not broken
+pub seat-asked : (t : Table) (j phase : ℕ) (wrong holds : Bool) (n : ℕ) → n ≡ first ((phase, wrong) ∷ (8, noSuchSeat t j) ∷ [])
+    → broken t ≡ false → wrong ≡ holds → n ≡ first (seatConditions (phase, holds) t j)
 unfolding first seatConditions
-seat-asked t j phase damaged wrong holds n e same-damaged same-phase = cc
+seat-asked t j phase wrong holds n e whole same-phase = e ∙ rw (whole, same-phase)
 
 module _ (phase : Condition) (t : Table) (j n : ℕ) (e : n ≡ first (seatConditions phase t j)) where
   pub seat-refuses : (n ≡ 0 → ⊥) → (rest : List Condition) → n ≡ first (seatConditions phase t j ++ rest)

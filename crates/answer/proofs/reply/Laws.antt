@@ -1,36 +1,37 @@
--- A call that shows nothing, and a refused close, give the step that the definition says.
+-- A call that shows nothing, and a refused close, give the step that the definition says, and leave the lent arrays alone.
 use mathlib.Core.Path.{_≡_, refl, _∙_, ap}
 use mathlib.Core.Bool.{Bool, true, false, cond}
 use mathlib.Core.List.{List}
 use Prim.Native.Nat.{ℕ}
 use lib.Dec.{eqb}
+use lib.IntN.{ℤ}
 use borrow.Author.Tests.{ne-eqb}
 use Rattle.call.specs.Refusal.{Condition, first}
 use Rattle.call.specs.Answer.{Shown, emptyShown}
-use Rattle.answer.specs.Outcome.{makeOutcome, outcome}
 use Rattle.table.specs.declared.Table.{Table}
 use Rattle.answer.specs.declared.reply.Reply.{Reply}
-use Rattle.answer.specs.Reply.{ReplyView, makeReplyView, replyBy, viewOf, plainReply}
+use Rattle.answer.specs.Outcome.{makeOutcome, outcome}
+use Rattle.answer.specs.Reply.{makeReplyView, replyBy, Given, givenBy, givenOf, plainReply}
 
 both-nothing : (b : Bool) → emptyShown ≡ cond b emptyShown emptyShown
 both-nothing true = refl
 both-nothing false = refl
 
--- a call that shows nothing
-pub plain : (conditions : List Condition) (effect t : Table) (r : Reply) → r ≡ plainReply (outcome conditions effect t)
-    → viewOf r ≡ replyBy conditions emptyShown effect t
-unfolding replyBy outcome
-plain conditions effect t r e =
-    ap viewOf e ∙ ap (λ (s : Shown). makeReplyView (first conditions) s (cond (eqb (first conditions) 0) effect t)) (both-nothing (eqb (first conditions) 0))
+module _ (names : List ℕ) (nets : List ℤ) (conditions : List Condition) (effect t : Table) where
+  -- a call that shows nothing
+  pub plain : (r : Reply) → r ≡ plainReply (outcome conditions effect t) → givenOf r names nets ≡ givenBy (replyBy conditions emptyShown effect t) names nets
+  unfolding replyBy outcome
+  plain r e =
+      ap (λ (x : Reply). givenOf x names nets) e
+      ∙ ap (λ (s : Shown). givenBy (makeReplyView (first conditions) s (cond (eqb (first conditions) 0) effect t)) names nets) (both-nothing (eqb (first conditions) 0))
 
--- a refused call shows nothing
-pub refused-step : (conditions : List Condition) (shown : Shown) (effect t : Table) (n : ℕ) (r : Reply) → r ≡ plainReply (makeOutcome n t)
-    → n ≡ first conditions → (n ≡ 0 → ⊥) → viewOf r ≡ replyBy conditions shown effect t
-unfolding replyBy
-refused-step conditions shown effect t n r e same some = ap viewOf e ∙ rw (← same, ne-eqb n 0 some)
+  module _ (shown : Shown) where
+    -- a refused call shows nothing
+    pub refused-step : (n : ℕ) (r : Reply) → r ≡ plainReply (makeOutcome n t) → n ≡ first conditions → (n ≡ 0 → ⊥) → givenOf r names nets ≡ givenBy (replyBy conditions shown effect t) names nets
+    unfolding replyBy
+    refused-step n r e same some = ap (λ (x : Reply). givenOf x names nets) e ∙ rw (← same, ne-eqb n 0 some)
 
--- an accepted one shows what it has to show
-pub accepted-step : (conditions : List Condition) (shown : Shown) (effect t : Table) (s : ReplyView) → s ≡ makeReplyView 0 shown effect
-    → first conditions ≡ 0 → s ≡ replyBy conditions shown effect t
-unfolding replyBy
-accepted-step conditions shown effect t s e none = e ∙ rw none
+    -- an accepted one shows what it has to show
+    pub accepted-step : (g : Given) → g ≡ givenBy (makeReplyView 0 shown effect) names nets → first conditions ≡ 0 → g ≡ givenBy (replyBy conditions shown effect t) names nets
+    unfolding replyBy
+    accepted-step g e none = e ∙ rw none

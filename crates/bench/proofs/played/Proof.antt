@@ -6,10 +6,10 @@ use Rattle.bench.proofs.played.Statement.{statement}
 use Rattle.bench.proofs.played.Tie as tie
 
 abbrev Inv-loop : tie.InvT-loop
-Inv-loop calls p₀ t₀ cards₀ sum₀ n₀ p t cards sum n = (n ≤ calls) × (calls ≤ 18446744073709551615)
+Inv-loop calls p₀ t₀ cards₀ names₀ nets₀ sum₀ n₀ p t cards names nets sum n = (n ≤ calls) × (calls ≤ 18446744073709551615)
 
 abbrev μ-loop : tie.MeasureT-loop
-μ-loop calls p₀ t₀ cards₀ sum₀ n₀ p t cards sum n = calls - n
+μ-loop calls p₀ t₀ cards₀ names₀ nets₀ sum₀ n₀ p t cards names nets sum n = calls - n
 
 start-requires : tie.Need-start-requires Inv-loop μ-loop
 start-requires c κs = search needs
@@ -47,6 +47,12 @@ loop-less c = omega arith
 loop-again : tie.Need-loop-again Inv-loop μ-loop
 loop-again c = omega arith
 
+broken-requires : tie.Need-broken-requires Inv-loop μ-loop
+broken-requires c κs = search needs
+
+whole-requires : tie.Need-whole-requires Inv-loop μ-loop
+whole-requires c κs = search needs
+
 returns : tie.Need-returns Inv-loop μ-loop
 returns c = search needs
 
@@ -68,4 +74,6 @@ played-spec =
     add-n
     loop-less
     loop-again
+    broken-requires
+    whole-requires
     returns)

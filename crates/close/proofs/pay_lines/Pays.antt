@@ -1,5 +1,5 @@
 -- Stakes and insurances are 32 bits wide, so pay and net are far from 64 bits, and a net is kept as it is.
-use mathlib.Core.Path.{_≡_, _∙_, ap}
+use mathlib.Core.Path.{_≡_, ap}
 use mathlib.Core.Bool.{Bool, true, false, cond}
 use Prim.Native.Nat.{ℕ, zero, suc, _-_, _*_, _<_, _≤_}
 use native.Mathlib.Omega.{arith}
@@ -19,7 +19,7 @@ use Rattle.payment.specs.Insurance.{insurancePay}
 use Rattle.payment.proofs.Bounds.{wager-bounds}
 use Rattle.payment.proofs.cover.Bounds.{gain-most}
 
-abbrev pub Small : Pay → Type 0
+abbrev Small : Pay → Type 0
 Small p = (p .laid ≤ 1000000000000000) × (p .back ≤ 1000000000000000)
 
 -- a difference fits, whichever its sign
@@ -34,12 +34,10 @@ fits back (suc laid) b l = either (ltb back (suc laid)) (suc laid - suc back) (b
 pub casts-fit : (back laid : ℕ) → back ≤ 1000000000000000 → laid ≤ 1000000000000000 → SFits w64 (toZ w64 back -ℤ toZ w64 laid)
 casts-fit back laid b l = rw (toZ-pos w64 back (omega arith), toZ-pos w64 laid (omega arith)) (fits back laid b l)
 
-module _ (p : Pay) (small : Small p) where
-  pub net-kept : (z : ℤ) → z ≡ net p → toZ w64 (ofZ w64 z) ≡ net p
-  net-kept z e = ap (λ (y : ℤ). toZ w64 (ofZ w64 y)) e ∙ toZ-ofZ w64 (net p) (fits (p .back) (p .laid) (small .1) (small .0))
-
-  pub casts-net : toZ w64 (ofZ w64 (toZ w64 (p .back) -ℤ toZ w64 (p .laid))) ≡ net p
-  casts-net = net-kept (toZ w64 (p .back) -ℤ toZ w64 (p .laid)) (rw (toZ-pos w64 (p .back) (omega arith), toZ-pos w64 (p .laid) (omega arith)))
+pub casts-net : (p : Pay) → Small p → toZ w64 (ofZ w64 (toZ w64 (p .back) -ℤ toZ w64 (p .laid))) ≡ net p
+casts-net p small =
+    rw (toZ-pos w64 (p .back) (omega arith), toZ-pos w64 (p .laid) (omega arith))
+    (toZ-ofZ w64 (net p) (fits (p .back) (p .laid) (small .1) (small .0)))
 
 module _ (bank : Score) (n : ℕ) (small : n < 4294967296) (p : Pay) where
   pub hand-pay-small : (o : Options) (h : Played) → p ≡ handPay o bank n h → Small p

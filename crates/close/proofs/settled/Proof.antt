@@ -11,14 +11,16 @@ all-lines-requires : tie.Need-all-lines-requires
 all-lines-requires c κs = search needs
 
 closed-requires : tie.Need-closed-requires
-closed-requires c κs = (c .before .before .pre, c .before .score-of .ensures)
+closed-requires c κs =
+    let score = c .before .before .before in
+    (score .before .pre, score .score-of .ensures)
 
 returns : tie.Need-returns
 returns c =
     let lines = c .before in
-    let score = lines .before in
+    let score = lines .before .before .before in
     let start = score .before in
-    settled-is (start .args .t) (start .args .bank) (score .score-of .result) (lines .all-lines .result) (c .closed .result)
+    settled-is (start .args .t) (start .args .bank) (score .score-of .result) (c .closed .result)
     (start .pre .cards) (score .score-of .ensures) (lines .all-lines .ensures) (c .closed .ensures)
 
 pub settled-spec : {M : Type 1} → statement M

@@ -13,9 +13,6 @@ cards-left-requires c κs = search needs
 table-sums-requires : tie.Need-table-sums-requires
 table-sums-requires c κs = search needs
 
-broken-requires : tie.Need-broken-requires
-broken-requires c κs = search needs
-
 is-dealt-requires : tie.Need-is-dealt-requires
 is-dealt-requires c κs = search needs
 
@@ -37,16 +34,14 @@ asked-requires-4 c κs = search needs
 asked-requires-5 : tie.Need-asked-requires-5
 asked-requires-5 c κs = search needs
 
-asked-requires-6 : tie.Need-asked-requires-6
-asked-requires-6 c κs = search needs
-
 returns : tie.Need-returns
 returns c =
-    let takes = c .before .before .before .before .before .before in
+    let takes = c .before .before .before .before .before in
     let round = takes .before .before .before .before in
-    let summed = round .before .before in
-    rw (c .asked6 .ensures, c .before .asked5 .ensures, c .before .before .asked4 .ensures, c .before .before .before .asked3 .ensures, c .before .before .before .before .asked2 .ensures, c .before .before .before .before .before .asked .ensures)
-    (deal-asked (summed .before .before .before .before .args .t) (round .before .broken .ensures) (round .is-dealt .ensures) (summed .table-sums .ensures) (summed .before .cards-left .ensures) (takes .deal-takes .ensures))
+    let summed = round .before in
+    let start = summed .before .before .before .before in
+    rw (c .asked5 .ensures, c .before .asked4 .ensures, c .before .before .asked3 .ensures, c .before .before .before .asked2 .ensures, c .before .before .before .before .asked .ensures)
+    (deal-asked (start .args .t) (start .pre) (round .is-dealt .ensures) (summed .table-sums .ensures) (summed .before .cards-left .ensures) (takes .deal-takes .ensures))
 
 pub deal-number-spec : {M : Type 1} → statement M
 deal-number-spec =
@@ -55,7 +50,6 @@ deal-number-spec =
     cast-behind
     cards-left-requires
     table-sums-requires
-    broken-requires
     is-dealt-requires
     deal-takes-requires
     asked-requires
@@ -63,5 +57,4 @@ deal-number-spec =
     asked-requires-3
     asked-requires-4
     asked-requires-5
-    asked-requires-6
     returns)

@@ -8,7 +8,8 @@ use Rattle.rules.specs.declared.seat_hand.SeatHand.{SeatHand}
 use Rattle.table.specs.declared.Seat.{Seat}
 use Rattle.table.specs.declared.Shoe.{Shoe}
 use Rattle.table.specs.declared.Table.{Table}
-use Rattle.table.specs.Seat.{makeSeat, purse, stake, withPurse}
+use Rattle.table.specs.Guest.{withPurse}
+use Rattle.table.specs.Seat.{makeSeat, withMoney, purse, stake}
 use Rattle.table.specs.Shoe.{withDrawn}
 use Rattle.table.specs.Table.{seatAt, up, withSeat, withShoe}
 use Rattle.decisions_spec.specs.Card.{cardAhead}
@@ -17,7 +18,7 @@ use Rattle.draw.specs.Aids.Splits.{twoFor, splitSeat}
 
 -- the seat: the purse, the places, and the hand and its place as the code has read them
 pub same-two : (s : Seat) (first second : ℕ) {paid : Seat} {places : List SeatHand} {p q kept-first kept-second : ℕ} {h k parent new : SeatHand}
-    → paid ≡ withPurse s (purse s - stake s)
+    → paid ≡ withMoney s (withPurse (s .money) (purse s - stake s))
     → places ≡ splitPlaces (s .hands .places) p parent new
     → parent ≡ splitHand kept-first first
     → kept-first ≡ getD (cardsOf (h .hand)) 0 0

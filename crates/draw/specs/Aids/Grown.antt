@@ -6,7 +6,8 @@ use Rattle.options.specs.declared.Options.{Options}
 use Rattle.rules.specs.declared.seat_hand.SeatHand.{SeatHand}
 use Rattle.rules.specs.Turn.{waitingPlace}
 use Rattle.table.specs.declared.Seat.{Seat}
-use Rattle.table.specs.Seat.{money, makeSeat, stake, insurance, hands}
+use Rattle.table.specs.Guest.{withPurse}
+use Rattle.table.specs.Seat.{makeSeat, hands}
 
 -- A hand with one card more and this code.
 abbrev pub grownBy : SeatHand → ℕ → ℕ → SeatHand
@@ -15,4 +16,4 @@ grownBy h card code = record { hand = withCard (h .hand) card; origin = h .origi
 -- The seat with another purse and this hand in the place of its first waiting one.
 abbrev pub grownSeat : Options → ℕ → Seat → SeatHand → ℕ → Seat
 grownSeat o up s h p =
-    makeSeat (money p (stake s) (insurance s)) (record { places = set (s .hands .places) (waitingPlace o up (hands s)) h; many = s .hands .many })
+    makeSeat (withPurse (s .money) p) (record { places = set (s .hands .places) (waitingPlace o up (hands s)) h; many = s .hands .many })

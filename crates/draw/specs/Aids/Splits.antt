@@ -9,7 +9,8 @@ use Rattle.rules.specs.declared.seat_hand.SeatHand.{SeatHand}
 use Rattle.rules.specs.Turn.{seatWaits, waitingPlace}
 use Rattle.table.specs.declared.Seat.{Seat}
 use Rattle.table.specs.declared.Table.{Table}
-use Rattle.table.specs.Seat.{money, makeSeat, purse, stake, insurance, hands}
+use Rattle.table.specs.Guest.{withPurse}
+use Rattle.table.specs.Seat.{makeSeat, purse, stake, hands}
 use Rattle.table.specs.Table.{seatAt, up}
 use Rattle.decisions_spec.specs.Place.{placeOf}
 use Rattle.decisions_spec.specs.Split.{splitHand, splitPlaces}
@@ -22,7 +23,7 @@ waitingHand o card s = placeOf s (waitingPlace o card (hands s))
 -- The seat with that hand h at p split: a stake less in the purse, a hand more.
 unfoldable pub twoFor : Seat → ℕ → SeatHand → ℕ → ℕ → Seat
 twoFor s p h first second =
-    makeSeat (money (purse s - stake s) (stake s) (insurance s))
+    makeSeat (withPurse (s .money) (purse s - stake s))
     (record { places = splitPlaces (s .hands .places) p (splitHand (getD (cardsOf (h .hand)) 0 0) first) (splitHand (getD (cardsOf (h .hand)) 1 0) second); many = s .hands .many + 1 })
 
 abbrev pub splitSeat : Options → ℕ → Seat → ℕ → ℕ → Seat

@@ -10,12 +10,9 @@ asked-requires c κs = search needs
 asked-requires-2 : tie.Need-asked-requires-2
 asked-requires-2 c κs = search needs
 
-asked-requires-3 : tie.Need-asked-requires-3
-asked-requires-3 c κs = search needs
-
 returns : tie.Need-returns
 unfolding first
-returns c = cc
+returns c = simp (c .asked2 .ensures, c .before .asked .ensures)
 
 pub seat-number-spec : {M : Type 1} → statement M
-seat-number-spec = tie.close (tie.spec asked-requires asked-requires-2 asked-requires-3 returns)
+seat-number-spec = tie.close (tie.spec asked-requires asked-requires-2 returns)

@@ -8,9 +8,6 @@ use Rattle.cashier_spec.specs.Buy.{buyConditions}
 use Rattle.cashier.proofs.buy.buy_number.Statement.{statement}
 use Rattle.cashier.proofs.buy.buy_number.Tie as tie
 
-broken-requires : tie.Need-broken-requires
-broken-requires c κs = search needs
-
 is-dealt-requires : tie.Need-is-dealt-requires
 is-dealt-requires c κs = search needs
 
@@ -20,7 +17,7 @@ seat-number-requires c κs = search needs
 returns : tie.Need-returns
 unfolding buyConditions
 returns c =
-    let early = seat-asked _ _ 4 _ _ _ _ (c .before .seat-number .ensures) (c .before .before .before .broken .ensures) (c .before .before .is-dealt .ensures) in
+    let early = seat-asked _ _ 4 _ _ _ (c .before .seat-number .ensures) (c .before .before .before .before .pre) (c .before .before .is-dealt .ensures) in
     seat-refuses _ _ _ _ early (c .if1 .taken) _
 
 table-sums-requires : tie.Need-table-sums-requires
@@ -41,15 +38,14 @@ returns-2 c =
     let sums = c .before .before .before in
     let passed = sums .before in
     let call = passed .before in
-    let start = call .before .before .before .before in
-    let early = seat-asked _ _ 4 _ _ _ _ (call .seat-number .ensures) (call .before .before .broken .ensures) (call .before .is-dealt .ensures) in
+    let start = call .before .before .before in
+    let early = seat-asked _ _ 4 _ _ _ (call .seat-number .ensures) (start .pre) (call .before .is-dealt .ensures) in
     (simp (c .asked2 .ensures, c .before .asked .ensures, c .before .before .past-most-money .ensures, past-limit (start .args .t) _ (start .args .n) (sums .table-sums .ensures))) ∙ sym (seat-passes _ _ _ _ early refl (passed .if1 .left) _)
 
 pub buy-number-spec : {M : Type 1} → statement M
 buy-number-spec =
     tie.close
     (tie.spec
-    broken-requires
     is-dealt-requires
     seat-number-requires
     returns

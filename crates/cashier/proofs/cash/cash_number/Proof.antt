@@ -7,9 +7,6 @@ use Rattle.cashier_spec.specs.Cash.{cashConditions}
 use Rattle.cashier.proofs.cash.cash_number.Statement.{statement}
 use Rattle.cashier.proofs.cash.cash_number.Tie as tie
 
-broken-requires : tie.Need-broken-requires
-broken-requires c κs = search needs
-
 is-dealt-requires : tie.Need-is-dealt-requires
 is-dealt-requires c κs = search needs
 
@@ -19,13 +16,13 @@ seat-number-requires c κs = search needs
 returns : tie.Need-returns
 unfolding cashConditions
 returns c =
-    let early = seat-asked _ _ 4 _ _ _ _ (c .before .seat-number .ensures) (c .before .before .before .broken .ensures) (c .before .before .is-dealt .ensures) in
+    let early = seat-asked _ _ 4 _ _ _ (c .before .seat-number .ensures) (c .before .before .before .before .pre) (c .before .before .is-dealt .ensures) in
     seat-refuses _ _ _ _ early (c .if1 .taken) _
 
 purse-at-requires : tie.Need-purse-at-requires
 purse-at-requires c κs =
     let call = c .before in
-    let early = seat-asked _ _ 4 _ _ _ _ (call .seat-number .ensures) (call .before .before .broken .ensures) (call .before .is-dealt .ensures) in
+    let early = seat-asked _ _ 4 _ _ _ (call .seat-number .ensures) (call .before .before .before .pre) (call .before .is-dealt .ensures) in
     seat-nine _ _ _ _ early refl (c .if1 .left)
 
 asked-requires : tie.Need-asked-requires
@@ -39,14 +36,13 @@ unfolding cashConditions first
 returns-2 c =
     let passed = c .before .before .before in
     let call = passed .before in
-    let early = seat-asked _ _ 4 _ _ _ _ (call .seat-number .ensures) (call .before .before .broken .ensures) (call .before .is-dealt .ensures) in
+    let early = seat-asked _ _ 4 _ _ _ (call .seat-number .ensures) (call .before .before .before .pre) (call .before .is-dealt .ensures) in
     (simp (c .asked2 .ensures, c .before .asked .ensures, c .before .before .purse-at .ensures)) ∙ sym (seat-passes _ _ _ _ early refl (passed .if1 .left) _)
 
 pub cash-number-spec : {M : Type 1} → statement M
 cash-number-spec =
     tie.close
     (tie.spec
-    broken-requires
     is-dealt-requires
     seat-number-requires
     returns

@@ -5,9 +5,6 @@ use Rattle.cashier_spec.specs.Credit.{creditConditions}
 use Rattle.cashier.proofs.credit.credit_number.Statement.{statement}
 use Rattle.cashier.proofs.credit.credit_number.Tie as tie
 
-broken-requires : tie.Need-broken-requires
-broken-requires c κs = search needs
-
 is-dealt-requires : tie.Need-is-dealt-requires
 is-dealt-requires c κs = search needs
 
@@ -20,30 +17,24 @@ asked-requires-2 c κs = search needs
 asked-requires-3 : tie.Need-asked-requires-3
 asked-requires-3 c κs = search needs
 
-asked-requires-4 : tie.Need-asked-requires-4
-asked-requires-4 c κs = search needs
-
 returns : tie.Need-returns
 unfolding creditConditions first
 returns c =
-    let dealt = c .before .before .before .before .before in
+    let dealt = c .before .before .before .before in
     simp (
-      c .asked4 .ensures,
-      c .before .asked3 .ensures,
-      c .before .before .asked2 .ensures,
-      c .before .before .before .asked .ensures,
+      c .asked3 .ensures,
+      c .before .asked2 .ensures,
+      c .before .before .asked .ensures,
       dealt .is-dealt .ensures,
-      dealt .before .broken .ensures,
+      dealt .before .pre,
     )
 
 pub credit-number-spec : {M : Type 1} → statement M
 credit-number-spec =
     tie.close
     (tie.spec
-    broken-requires
     is-dealt-requires
     asked-requires
     asked-requires-2
     asked-requires-3
-    asked-requires-4
     returns)

@@ -6,9 +6,6 @@ use Rattle.cashier_spec.specs.Fill.{fillConditions}
 use Rattle.cashier.proofs.fill.fill_number.Statement.{statement}
 use Rattle.cashier.proofs.fill.fill_number.Tie as tie
 
-broken-requires : tie.Need-broken-requires
-broken-requires c κs = search needs
-
 is-dealt-requires : tie.Need-is-dealt-requires
 is-dealt-requires c κs = search needs
 
@@ -27,35 +24,29 @@ asked-requires-2 c κs = search needs
 asked-requires-3 : tie.Need-asked-requires-3
 asked-requires-3 c κs = search needs
 
-asked-requires-4 : tie.Need-asked-requires-4
-asked-requires-4 c κs = search needs
-
 returns : tie.Need-returns
 unfolding fillConditions first
 returns c =
-    let sums = c .before .before .before .before .before in
-    let start = sums .before .before .before in
+    let sums = c .before .before .before .before in
+    let start = sums .before .before in
     simp (
-      c .asked4 .ensures,
-      c .before .asked3 .ensures,
-      c .before .before .asked2 .ensures,
-      c .before .before .before .asked .ensures,
-      c .before .before .before .before .past-most-money .ensures,
+      c .asked3 .ensures,
+      c .before .asked2 .ensures,
+      c .before .before .asked .ensures,
+      c .before .before .before .past-most-money .ensures,
       past-limit (start .args .t) _ (start .args .n) (sums .table-sums .ensures),
       sums .before .is-dealt .ensures,
-      sums .before .before .broken .ensures,
+      start .pre,
     )
 
 pub fill-number-spec : {M : Type 1} → statement M
 fill-number-spec =
     tie.close
     (tie.spec
-    broken-requires
     is-dealt-requires
     table-sums-requires
     past-most-money-requires
     asked-requires
     asked-requires-2
     asked-requires-3
-    asked-requires-4
     returns)

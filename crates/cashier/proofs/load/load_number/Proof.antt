@@ -5,9 +5,6 @@ use Rattle.cashier_spec.specs.Load.{loadConditions}
 use Rattle.cashier.proofs.load.load_number.Statement.{statement}
 use Rattle.cashier.proofs.load.load_number.Tie as tie
 
-broken-requires : tie.Need-broken-requires
-broken-requires c κs = search needs
-
 valid-order-requires : tie.Need-valid-order-requires
 valid-order-requires c κs = search needs
 
@@ -20,30 +17,24 @@ asked-requires c κs = search needs
 asked-requires-2 : tie.Need-asked-requires-2
 asked-requires-2 c κs = search needs
 
-asked-requires-3 : tie.Need-asked-requires-3
-asked-requires-3 c κs = search needs
-
 returns : tie.Need-returns
 unfolding loadConditions first
 returns c =
-    let dealt = c .before .before .before in
+    let dealt = c .before .before in
     simp (
-      c .asked3 .ensures,
-      c .before .asked2 .ensures,
-      c .before .before .asked .ensures,
+      c .asked2 .ensures,
+      c .before .asked .ensures,
       dealt .is-dealt .ensures,
       dealt .before .valid-order .ensures,
-      dealt .before .before .broken .ensures,
+      dealt .before .before .before .before .pre,
     )
 
 pub load-number-spec : {M : Type 1} → statement M
 load-number-spec =
     tie.close
     (tie.spec
-    broken-requires
     valid-order-requires
     is-dealt-requires
     asked-requires
     asked-requires-2
-    asked-requires-3
     returns)

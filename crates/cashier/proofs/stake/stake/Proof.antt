@@ -1,9 +1,9 @@
 -- The number decides: the table as it was, or the effect; an accepted stake's seat is one of the nine, and its purse holds it.
 use mathlib.Core.Path.{_≡_, sym, ap, _∙_}
-use Prim.Native.Nat.{_-_}
 use borrow.Author.Needs.{needs}
 use Rattle.table.specs.declared.Seat.{Seat}
-use Rattle.table.specs.Seat.{money, makeSeat, purse, insurance}
+use Rattle.table.specs.Guest.{staking}
+use Rattle.table.specs.Seat.{withMoney}
 use Rattle.table.specs.Table.{seatAt, withSeat}
 use Rattle.answer.proofs.outcome.Laws.{refused, accepted}
 use Rattle.cashier_spec.specs.Stake.{stakeConditions, stakeEffect}
@@ -47,8 +47,8 @@ returns-2 c =
     let t = c .before .before .before .before .before .before .args .t in
     let j = c .before .before .before .before .before .before .args .at .seat in
     let n = c .before .before .before .before .before .before .args .n in
-    let next : c .before .staked .result ≡ makeSeat (money (purse (seatAt t j) - n) n (insurance (seatAt t j))) (seatAt t j .hands)
-    = c .before .staked .ensures ∙ ap (λ (s : Seat). makeSeat (money (purse s - n) n (insurance s)) (s .hands)) (c .before .before .seat-at .ensures) in
+    let next : c .before .staked .result ≡ withMoney (seatAt t j) (staking (seatAt t j .money) n)
+    = c .before .staked .ensures ∙ ap (λ (s : Seat). withMoney s (staking (s .money) n)) (c .before .before .seat-at .ensures) in
     accepted (stakeConditions t j n) (stakeEffect t j n) t _ _ (c .before .before .before .before .before .stake-number .ensures) (c .before .before .before .before .if1 .left)
     (c .with-seat .ensures ∙ ap (withSeat t j) next)
 

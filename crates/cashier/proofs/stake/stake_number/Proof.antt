@@ -7,9 +7,6 @@ use Rattle.cashier_spec.specs.Stake.{stakeConditions}
 use Rattle.cashier.proofs.stake.stake_number.Statement.{statement}
 use Rattle.cashier.proofs.stake.stake_number.Tie as tie
 
-broken-requires : tie.Need-broken-requires
-broken-requires c κs = search needs
-
 is-dealt-requires : tie.Need-is-dealt-requires
 is-dealt-requires c κs = search needs
 
@@ -19,7 +16,7 @@ seat-number-requires c κs = search needs
 returns : tie.Need-returns
 unfolding stakeConditions
 returns c =
-    let early = seat-asked _ _ 4 _ _ _ _ (c .before .seat-number .ensures) (c .before .before .before .broken .ensures) (c .before .before .is-dealt .ensures) in
+    let early = seat-asked _ _ 4 _ _ _ (c .before .seat-number .ensures) (c .before .before .before .before .pre) (c .before .before .is-dealt .ensures) in
     seat-refuses _ _ _ _ early (c .if1 .taken) _
 
 cast-seat-at : tie.Need-cast-seat-at
@@ -28,7 +25,7 @@ cast-seat-at c = search needs
 seat-at-requires : tie.Need-seat-at-requires
 seat-at-requires c κs =
     let call = c .before .before in
-    let early = seat-asked _ _ 4 _ _ _ _ (call .seat-number .ensures) (call .before .before .broken .ensures) (call .before .is-dealt .ensures) in
+    let early = seat-asked _ _ 4 _ _ _ (call .seat-number .ensures) (call .before .before .before .pre) (call .before .is-dealt .ensures) in
     seat-nine _ _ _ _ early refl (c .before .if1 .left)
 
 stake-permitted-requires : tie.Need-stake-permitted-requires
@@ -53,7 +50,7 @@ returns-2 c =
     let seat = permitted .before .before .before in
     let passed = seat .before .before in
     let call = passed .before in
-    let early = seat-asked _ _ 4 _ _ _ _ (call .seat-number .ensures) (call .before .before .broken .ensures) (call .before .is-dealt .ensures) in
+    let early = seat-asked _ _ 4 _ _ _ (call .seat-number .ensures) (call .before .before .before .pre) (call .before .is-dealt .ensures) in
     (simp (
       c .asked4 .ensures,
       c .before .asked3 .ensures,
@@ -68,7 +65,6 @@ pub stake-number-spec : {M : Type 1} → statement M
 stake-number-spec =
     tie.close
     (tie.spec
-    broken-requires
     is-dealt-requires
     seat-number-requires
     returns

@@ -1,36 +1,37 @@
 -- `hand_lines` goes place by place: before each turn the first hands have their lines, one each.
-use mathlib.Core.Path.{_≡_, _∙_, ap}
-use mathlib.Core.List.{List}
-use Prim.Native.Nat.{_+_, _-_, _≤_}
+use mathlib.Core.Path.{_≡_, sym, _∙_, ap}
+use mathlib.Core.List.{List, [], _∷_, map}
+use Prim.Native.Nat.{_+_, _-_, _≤_, _<_, min}
 use native.Mathlib.Omega.{arith}
 use borrow.Author.Needs.{needs}
 use lib.ListN.{length, take, getD, length-map}
 use lib.Seq.{take-all}
 use Rattle.rules.specs.SeatHand.{Played, playedOf, handsOf}
-use Rattle.rules.proofs.seat_hand.Places.{many-hands}
-use Rattle.payment.specs.Pay.{net}
+use Rattle.rules.proofs.seat_hand.Places.{many-hands, hand-at}
+use Rattle.payment.specs.HandPay.{handPay}
+use Rattle.payment.specs.Pays.{due, handKind, handPays}
 use Rattle.table.specs.Seat.{missingPlace}
-use Rattle.close_spec.specs.PayLines.{handLines}
-use Rattle.answer.specs.Aids.WithLines.{withLines}
-use Rattle.answer.proofs.settlement.Lines.{lines-none, line-counted}
-use Rattle.close.proofs.pay_lines.Pays.{hand-pay-small, net-kept}
-use Rattle.close.proofs.pay_lines.HandLines.{hand-line}
+use Rattle.close_spec.specs.PayLines.{lineOf}
+use Rattle.close_spec.proofs.PayLines.{hand-lines-next}
+use Rattle.close.specs.Aids.LinesAt.{LinesAt}
+use Rattle.close.proofs.pay_lines.Pays.{hand-pay-small}
+use Rattle.close.proofs.pay_lines.Lines.{lines-none, line-put, lines-are, lines-more}
 use Rattle.close.proofs.pay_lines.hand_lines.Statement.{statement}
 use Rattle.close.proofs.pay_lines.hand_lines.Tie as tie
 
 abbrev Inv-loop : tie.InvT-loop
-Inv-loop o bank stake seat hands n next₀ place₀ next place =
-    (place ≤ n) × (next .count ≡ next₀ .count + place) × (next ≡ withLines next₀ (handLines o bank stake seat 0 (take place (handsOf hands))))
+Inv-loop names₀ nets₀ at o bank stake seat hands n place₀ names nets place =
+    (place ≤ n) × LinesAt names₀ nets₀ at (map (lineOf seat) (handPays o bank stake 0 (take place (handsOf hands)))) names nets (at + place)
 
 abbrev μ-loop : tie.MeasureT-loop
-μ-loop o bank stake seat hands n next₀ place₀ next place = n - place
+μ-loop names₀ nets₀ at o bank stake seat hands n place₀ names nets place = n - place
 
 used-requires : tie.Need-used-requires Inv-loop μ-loop
 used-requires c κs = search needs
 
 loop-holds : tie.Need-loop-holds Inv-loop μ-loop
-unfolding handLines
-loop-holds c = (omega arith, omega arith, lines-none (c .before .args .l))
+unfolding handPays
+loop-holds c = (omega arith, lines-none _ _ (c .before .args .at) _ (omega arith))
 
 mul-h : tie.Need-mul-h Inv-loop μ-loop
 mul-h c = omega arith
@@ -38,21 +39,25 @@ mul-h c = omega arith
 element-copy-out-h : tie.Need-element-copy-out-h Inv-loop μ-loop
 element-copy-out-h c = omega arith
 
-cast-t20 : tie.Need-cast-t20 Inv-loop μ-loop
-cast-t20 c = record { fits = omega arith }
-
 hand-pay-requires : tie.Need-hand-pay-requires Inv-loop μ-loop
 hand-pay-requires c κs = search needs
 
-net-of-requires : tie.Need-net-of-requires Inv-loop μ-loop
-net-of-requires c κs =
-    let at = c .before .before .before in
-    let start = at .before .before in
-    hand-pay-small (start .args .bank) (start .args .stake) (omega arith) (c .hand-pay .result) (start .args .o)
-    (playedOf (getD (start .args .t6 .places) (at .loop .place) missingPlace)) (c .hand-pay .ensures)
+cast-line-name : tie.Need-cast-line-name Inv-loop μ-loop
+cast-line-name c = record { fits = omega arith }
 
-with-line-requires : tie.Need-with-line-requires Inv-loop μ-loop
-with-line-requires c κs = search needs
+line-name-requires : tie.Need-line-name-requires Inv-loop μ-loop
+line-name-requires c κs = search needs
+
+add-put-line : tie.Need-add-put-line Inv-loop μ-loop
+add-put-line c = omega arith
+
+put-line-requires : tie.Need-put-line-requires Inv-loop μ-loop
+put-line-requires c κs =
+    let at = c .before .before .before .before .before .before in
+    let a = at .before .before .args in
+    let pay = c .before .before .before .hand-pay in
+    let small = hand-pay-small (a .bank) (a .stake) (omega arith) (pay .result) (a .o) (playedOf (getD (a .t8 .places) (at .loop .place) missingPlace)) (pay .ensures) in
+    (omega arith, small .0, small .1)
 
 add-place : tie.Need-add-place Inv-loop μ-loop
 add-place c = omega arith
@@ -62,27 +67,39 @@ loop-less c = omega arith
 
 loop-again : tie.Need-loop-again Inv-loop μ-loop
 loop-again c =
-    let at = c .before .before .before .before .before in
+    let at = c .before .before .before .before .before .before .before in
     let start = at .before .before in
     let a = start .args in
-    let full : length (a .t6 .places) ≡ 4 = simp length-map at (start .good .1 .1 .1 .1 .1 .0 .1 .1 .0 .1 .0 .1) in
-    let paid = c .before .before .hand-pay .result in
-    let h = playedOf (getD (a .t6 .places) (at .loop .place) missingPlace) in
-    let small = hand-pay-small (a .bank) (a .stake) (omega arith) paid (a .o) h (c .before .before .hand-pay .ensures) in
-    let kept = net-kept paid small (c .before .net-of .result) (c .before .net-of .ensures) in (
+    let i = at .loop .place in
+    let pay = c .before .before .before .before .hand-pay in
+    let name = c .before .before .before .line-name in
+    let full : length (a .t8 .places) ≡ 4 = simp length-map at (start .good .1 .1 .1 .1 .1 .1 .1 .0 .1 .1 .0 .1 .0 .1) in
+    let n : at .before .used .result ≡ min (a .t8 .many) 4 = at .before .used .ensures in
+    let low : i < at .before .used .result = c .before .before .before .before .before .before .loop-test .taken in
+    let here = hand-at (a .t8) i missingPlace (omega arith) in
+    let within : i < length (handsOf (a .t8)) = omega (arith, many-hands (a .t8) full) in
+    let one = due handKind i (handPay (a .o) (a .bank) (a .stake) (getD (handsOf (a .t8)) i (playedOf missingPlace))) in (
       omega arith,
-      omega (arith, line-counted (at .loop .next) _ (omega arith) (c .with-line .result) (c .with-line .ensures)),
-      hand-line (a .o) (a .bank) (a .stake) (a .seat) (a .t6) full (at .loop .place) (omega arith) (a .l) (at .loop .next) (c .with-line .result) _ (at .loop .inv .2) (omega arith)
-          (c .with-line .ensures) (kept ∙ ap net (c .before .before .hand-pay .ensures)),
+      lines-more (map (lineOf (a .seat)) (handPays (a .o) (a .bank) (a .stake) 0 (take i (handsOf (a .t8))))) (lineOf (a .seat) one ∷ []) _ (at .loop .inv .1)
+          (line-put (a .seat) one (name .result) (pay .result)
+          (c .put-line .ensures .0) (name .ensures) (c .put-line .ensures .1) (pay .ensures ∙ ap (handPay (a .o) (a .bank) (a .stake)) (sym here)) (omega arith))
+          (sym (hand-lines-next (a .o) (a .bank) (a .stake) (a .seat) i (handsOf (a .t8)) (playedOf missingPlace) within)),
     )
+
+add-result : tie.Need-add-result Inv-loop μ-loop
+add-result c = omega arith
 
 returns : tie.Need-returns Inv-loop μ-loop
 returns c =
     let at = c .before in
     let start = at .before .before in
     let a = start .args in
-    let full : length (a .t6 .places) ≡ 4 = simp length-map at (start .good .1 .1 .1 .1 .1 .0 .1 .1 .0 .1 .0 .1) in
-    (omega arith, at .loop .inv .2 ∙ ap (λ (hands : List Played). withLines (a .l) (handLines (a .o) (a .bank) (a .stake) (a .seat) 0 hands)) (take-all (at .loop .place) (handsOf (a .t6)) (omega (arith, many-hands (a .t6) full))))
+    let full : length (a .t8 .places) ≡ 4 = simp length-map at (start .good .1 .1 .1 .1 .1 .1 .1 .0 .1 .1 .0 .1 .0 .1) in (
+      omega arith,
+      lines-are (at .loop .inv .1)
+          (ap (λ (hands : List Played). map (lineOf (a .seat)) (handPays (a .o) (a .bank) (a .stake) 0 hands)) (take-all (at .loop .place) (handsOf (a .t8)) (omega (arith, many-hands (a .t8) full))))
+          (omega arith),
+    )
 
 pub hand-lines-spec : {M : Type 1} → statement M
 hand-lines-spec =
@@ -94,11 +111,13 @@ hand-lines-spec =
     loop-holds
     mul-h
     element-copy-out-h
-    cast-t20
     hand-pay-requires
-    net-of-requires
-    with-line-requires
+    cast-line-name
+    line-name-requires
+    add-put-line
+    put-line-requires
     add-place
     loop-less
     loop-again
+    add-result
     returns)

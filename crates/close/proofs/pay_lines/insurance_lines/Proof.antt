@@ -1,44 +1,54 @@
 -- No insurance, no line; else one, for which there is room.
-use mathlib.Core.Path.{_∙_, ap}
+use mathlib.Core.Path.{refl}
 use native.Mathlib.Omega.{arith}
 use borrow.Author.Needs.{needs}
 use borrow.Author.Tests.{lt-ltb, le-ltb}
-use lib.IntN.{ℤ}
-use Rattle.payment.specs.Pay.{net}
-use Rattle.close_spec.specs.PayLines.{line, insuranceKind, insuranceLines}
-use Rattle.answer.specs.Settlement.{withLine}
-use Rattle.answer.proofs.settlement.Lines.{lines-none, line-one, line-counted}
-use Rattle.close.proofs.pay_lines.Pays.{insurance-pay-small, net-kept}
+use Rattle.payment.specs.Insurance.{insurancePay}
+use Rattle.payment.specs.Pays.{due, insuranceKind, insurancePays}
+use Rattle.close.proofs.pay_lines.Pays.{insurance-pay-small}
+use Rattle.close.proofs.pay_lines.Lines.{lines-none, line-put}
 use Rattle.close.proofs.pay_lines.insurance_lines.Statement.{statement}
 use Rattle.close.proofs.pay_lines.insurance_lines.Tie as tie
 
 returns : tie.Need-returns
-unfolding insuranceLines
-returns c = let a = c .before .args in (omega arith, rw (le-ltb 0 (a .insurance) (omega arith)) (lines-none (a .l)))
+unfolding insurancePays
+returns c = let a = c .before .args in (omega arith, rw (le-ltb 0 (a .insurance) (omega arith)) (lines-none _ _ (a .at) _ refl))
 
 insurance-pay-requires : tie.Need-insurance-pay-requires
 insurance-pay-requires c κs = search needs
 
-net-of-requires : tie.Need-net-of-requires
-net-of-requires c κs = let a = c .before .before .args in insurance-pay-small (a .bank) (a .insurance) (omega arith) (c .insurance-pay .result) (c .insurance-pay .ensures)
+line-name-requires : tie.Need-line-name-requires
+line-name-requires c κs = search needs
 
-with-line-requires : tie.Need-with-line-requires
-with-line-requires c κs = search needs
+put-line-requires : tie.Need-put-line-requires
+put-line-requires c κs =
+    let a = c .before .before .before .before .before .args in
+    let pay = c .before .before .before .insurance-pay in
+    let small = insurance-pay-small (a .bank) (a .insurance) (omega arith) (pay .result) (pay .ensures) in
+    (omega arith, small .0, small .1)
+
+add-result : tie.Need-add-result
+add-result c = search needs
 
 returns-2 : tie.Need-returns-2
-unfolding insuranceLines
+unfolding insurancePays
 returns-2 c =
-    let a = c .before .before .before .before .args in
-    let paid = c .before .before .insurance-pay .result in
-    let is = c .before .before .insurance-pay .ensures in
-    let kept = net-kept paid (insurance-pay-small (a .bank) (a .insurance) (omega arith) paid is) (c .before .net-of .result) (c .before .net-of .ensures) ∙ ap net is in (
-      omega (arith, line-counted (a .l) _ (omega arith) (c .with-line .result) (c .with-line .ensures)),
-      c .with-line .ensures
-          ∙ ap (λ (y : ℤ). withLine (a .l) (line (a .seat) 0 insuranceKind y)) kept
-          ∙ rw (lt-ltb 0 (a .insurance) (omega arith)) (line-one (a .l) _ (omega arith)),
+    let a = c .before .before .before .before .before .before .args in
+    let pay = c .before .before .before .before .insurance-pay in
+    let name = c .before .before .before .line-name in (
+      omega arith,
+      rw (lt-ltb 0 (a .insurance) (omega arith))
+          (line-put (a .seat) (due insuranceKind 0 (insurancePay (a .bank) (a .insurance))) (name .result) (pay .result)
+          (c .put-line .ensures .0) (name .ensures) (c .put-line .ensures .1) (pay .ensures) refl),
     )
 
 pub insurance-lines-spec : {M : Type 1} → statement M
 insurance-lines-spec =
     tie.close
-    (tie.spec returns insurance-pay-requires net-of-requires with-line-requires returns-2)
+    (tie.spec
+    returns
+    insurance-pay-requires
+    line-name-requires
+    put-line-requires
+    add-result
+    returns-2)

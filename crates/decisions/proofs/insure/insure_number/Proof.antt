@@ -8,9 +8,6 @@ use Rattle.decisions_spec.specs.Insure.{insureConditions}
 use Rattle.decisions.proofs.insure.insure_number.Statement.{statement}
 use Rattle.decisions.proofs.insure.insure_number.Tie as tie
 
-broken-requires : tie.Need-broken-requires
-broken-requires c κs = search needs
-
 is-dealt-requires : tie.Need-is-dealt-requires
 is-dealt-requires c κs = search needs
 
@@ -21,7 +18,7 @@ returns : tie.Need-returns
 unfolding insureConditions
 returns c =
     let call = c .before in
-    let early = seat-asked _ _ 5 _ _ _ _ (call .seat-number .ensures) (call .before .before .broken .ensures) (ap not (call .before .is-dealt .ensures)) in
+    let early = seat-asked _ _ 5 _ _ _ (call .seat-number .ensures) (call .before .before .before .pre) (ap not (call .before .is-dealt .ensures)) in
     seat-refuses _ _ _ _ early (c .if1 .taken) _
 
 cast-seat-at : tie.Need-cast-seat-at
@@ -31,7 +28,7 @@ seat-at-requires : tie.Need-seat-at-requires
 seat-at-requires c κs =
     let passed = c .before in
     let call = passed .before in
-    let early = seat-asked _ _ 5 _ _ _ _ (call .seat-number .ensures) (call .before .before .broken .ensures) (ap not (call .before .is-dealt .ensures)) in
+    let early = seat-asked _ _ 5 _ _ _ (call .seat-number .ensures) (call .before .before .before .pre) (ap not (call .before .is-dealt .ensures)) in
     seat-nine _ _ _ _ early refl (passed .if1 .left)
 
 insurance-permitted-requires : tie.Need-insurance-permitted-requires
@@ -75,7 +72,7 @@ returns-2 c =
     let seat = permitted .before .before in
     let passed = seat .before .before in
     let call = passed .before in
-    let early = seat-asked _ _ 5 _ _ _ _ (call .seat-number .ensures) (call .before .before .broken .ensures) (ap not (call .before .is-dealt .ensures)) in
+    let early = seat-asked _ _ 5 _ _ _ (call .seat-number .ensures) (call .before .before .before .pre) (ap not (call .before .is-dealt .ensures)) in
     (simp (
       c .asked7 .ensures,
       c .before .asked6 .ensures,
@@ -96,7 +93,6 @@ pub insure-number-spec : {M : Type 1} → statement M
 insure-number-spec =
     tie.close
     (tie.spec
-    broken-requires
     is-dealt-requires
     seat-number-requires
     returns

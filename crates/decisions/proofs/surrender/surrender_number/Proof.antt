@@ -8,9 +8,6 @@ use Rattle.decisions_spec.specs.Surrender.{surrenderConditions}
 use Rattle.decisions.proofs.surrender.surrender_number.Statement.{statement}
 use Rattle.decisions.proofs.surrender.surrender_number.Tie as tie
 
-broken-requires : tie.Need-broken-requires
-broken-requires c κs = search needs
-
 is-dealt-requires : tie.Need-is-dealt-requires
 is-dealt-requires c κs = search needs
 
@@ -21,7 +18,7 @@ returns : tie.Need-returns
 unfolding surrenderConditions
 returns c =
     let call = c .before in
-    let early = seat-asked _ _ 5 _ _ _ _ (call .seat-number .ensures) (call .before .before .broken .ensures) (ap not (call .before .is-dealt .ensures)) in
+    let early = seat-asked _ _ 5 _ _ _ (call .seat-number .ensures) (call .before .before .before .pre) (ap not (call .before .is-dealt .ensures)) in
     seat-refuses _ _ _ _ early (c .if1 .taken) _
 
 up-requires : tie.Need-up-requires
@@ -34,7 +31,7 @@ seat-at-requires : tie.Need-seat-at-requires
 seat-at-requires c κs =
     let passed = c .before .before in
     let call = passed .before in
-    let early = seat-asked _ _ 5 _ _ _ _ (call .seat-number .ensures) (call .before .before .broken .ensures) (ap not (call .before .is-dealt .ensures)) in
+    let early = seat-asked _ _ 5 _ _ _ (call .seat-number .ensures) (call .before .before .before .pre) (ap not (call .before .is-dealt .ensures)) in
     seat-nine _ _ _ _ early refl (passed .if1 .left)
 
 any-drew-requires : tie.Need-any-drew-requires
@@ -65,7 +62,7 @@ returns-2 c =
     let seat = tests .before .before .before .before .before .before in
     let passed = seat .before .before .before in
     let call = passed .before in
-    let early = seat-asked _ _ 5 _ _ _ _ (call .seat-number .ensures) (call .before .before .broken .ensures) (ap not (call .before .is-dealt .ensures)) in
+    let early = seat-asked _ _ 5 _ _ _ (call .seat-number .ensures) (call .before .before .before .pre) (ap not (call .before .is-dealt .ensures)) in
     (simp (
       c .asked4 .ensures,
       c .before .asked3 .ensures,
@@ -83,7 +80,6 @@ pub surrender-number-spec : {M : Type 1} → statement M
 surrender-number-spec =
     tie.close
     (tie.spec
-    broken-requires
     is-dealt-requires
     seat-number-requires
     returns

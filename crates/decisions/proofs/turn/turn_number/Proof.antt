@@ -8,9 +8,6 @@ use Rattle.decisions_spec.specs.Turn.{turnConditions}
 use Rattle.decisions.proofs.turn.turn_number.Statement.{statement}
 use Rattle.decisions.proofs.turn.turn_number.Tie as tie
 
-broken-requires : tie.Need-broken-requires
-broken-requires c κs = search needs
-
 is-dealt-requires : tie.Need-is-dealt-requires
 is-dealt-requires c κs = search needs
 
@@ -21,7 +18,7 @@ returns : tie.Need-returns
 unfolding turnConditions
 returns c =
     let call = c .before in
-    let early = seat-asked _ _ 5 _ _ _ _ (call .seat-number .ensures) (call .before .before .broken .ensures) (ap not (call .before .is-dealt .ensures)) in
+    let early = seat-asked _ _ 5 _ _ _ (call .seat-number .ensures) (call .before .before .before .pre) (ap not (call .before .is-dealt .ensures)) in
     seat-refuses _ _ _ _ early (c .if1 .taken) _
 
 cast-j : tie.Need-cast-j
@@ -31,7 +28,7 @@ seat-at-requires : tie.Need-seat-at-requires
 seat-at-requires c κs =
     let passed = c .before in
     let call = passed .before in
-    let early = seat-asked _ _ 5 _ _ _ _ (call .seat-number .ensures) (call .before .before .broken .ensures) (ap not (call .before .is-dealt .ensures)) in
+    let early = seat-asked _ _ 5 _ _ _ (call .seat-number .ensures) (call .before .before .before .pre) (ap not (call .before .is-dealt .ensures)) in
     seat-nine _ _ _ _ early refl (passed .if1 .left)
 
 seat-in-turn-requires : tie.Need-seat-in-turn-requires
@@ -48,7 +45,7 @@ unfolding turnConditions first
 returns-2 c =
     let passed = c .before .before .before .before .before .before .before in
     let call = passed .before in
-    let early = seat-asked _ _ 5 _ _ _ _ (call .seat-number .ensures) (call .before .before .broken .ensures) (ap not (call .before .is-dealt .ensures)) in
+    let early = seat-asked _ _ 5 _ _ _ (call .seat-number .ensures) (call .before .before .before .pre) (ap not (call .before .is-dealt .ensures)) in
     (simp (
       c .asked2 .ensures,
       c .before .asked .ensures,
@@ -61,7 +58,6 @@ pub turn-number-spec : {M : Type 1} → statement M
 turn-number-spec =
     tie.close
     (tie.spec
-    broken-requires
     is-dealt-requires
     seat-number-requires
     returns

@@ -6,10 +6,10 @@ use Rattle.rehearsal.proofs.calls.all_staked.Statement.{statement}
 use Rattle.rehearsal.proofs.calls.all_staked.Tie as tie
 
 abbrev Inv-loop : tie.InvT-loop
-Inv-loop seats amount next₀ seat₀ t8 t9 next seat = seat ≤ seats
+Inv-loop seats amount names₀ nets₀ next₀ seat₀ t10 t11 names nets next seat = (seat ≤ seats) × (seats ≤ 255)
 
 abbrev μ-loop : tie.MeasureT-loop
-μ-loop seats amount next₀ seat₀ t8 t9 next seat = seats - seat
+μ-loop seats amount names₀ nets₀ next₀ seat₀ t10 t11 names nets next seat = seats - seat
 
 loop-holds : tie.Need-loop-holds Inv-loop μ-loop
 loop-holds c = omega arith

@@ -6,10 +6,10 @@ use Rattle.rehearsal.proofs.calls.drawn.Statement.{statement}
 use Rattle.rehearsal.proofs.calls.drawn.Tie as tie
 
 abbrev Inv-loop : tie.InvT-loop
-Inv-loop at times s₀ i₀ t7 s i = i ≤ 20
+Inv-loop at times names₀ nets₀ s₀ i₀ t9 names nets s i = i ≤ 20
 
 abbrev μ-loop : tie.MeasureT-loop
-μ-loop at times s₀ i₀ t7 s i = 20 - i
+μ-loop at times names₀ nets₀ s₀ i₀ t9 names nets s i = 20 - i
 
 slice-aggregate-step : tie.Need-slice-aggregate-step Inv-loop μ-loop
 slice-aggregate-step c = search needs

@@ -1,4 +1,4 @@
--- `pay_lines` goes over the 45 places of the list.
+-- `pay_lines` goes over the 45 places of the arrays.
 use Prim.Native.Nat.{_≤_, _-_}
 use native.Mathlib.Omega.{arith}
 use borrow.Author.Needs.{needs}
@@ -6,19 +6,25 @@ use Rattle.rehearsal.proofs.lines.pay_lines.Statement.{statement}
 use Rattle.rehearsal.proofs.lines.pay_lines.Tie as tie
 
 abbrev Inv-loop : tie.InvT-loop
-Inv-loop l n i₀ i = i ≤ 45
+Inv-loop names nets n i₀ i = i ≤ 45
 
 abbrev μ-loop : tie.MeasureT-loop
-μ-loop l n i₀ i = 45 - i
+μ-loop names nets n i₀ i = 45 - i
 
 loop-holds : tie.Need-loop-holds Inv-loop μ-loop
 loop-holds c = omega arith
 
-mul-line : tie.Need-mul-line Inv-loop μ-loop
-mul-line c = omega arith
+mul-pay-line : tie.Need-mul-pay-line Inv-loop μ-loop
+mul-pay-line c = omega arith
 
-element-copy-out-line : tie.Need-element-copy-out-line Inv-loop μ-loop
-element-copy-out-line c = omega arith
+element-copy-out-pay-line : tie.Need-element-copy-out-pay-line Inv-loop μ-loop
+element-copy-out-pay-line c = omega arith
+
+mul-pay-line-2 : tie.Need-mul-pay-line-2 Inv-loop μ-loop
+mul-pay-line-2 c = omega arith
+
+element-copy-out-pay-line-2 : tie.Need-element-copy-out-pay-line-2 Inv-loop μ-loop
+element-copy-out-pay-line-2 c = omega arith
 
 pay-line-requires : tie.Need-pay-line-requires Inv-loop μ-loop
 pay-line-requires c κs = search needs
@@ -42,8 +48,10 @@ pay-lines-spec =
     Inv-loop
     μ-loop
     loop-holds
-    mul-line
-    element-copy-out-line
+    mul-pay-line
+    element-copy-out-pay-line
+    mul-pay-line-2
+    element-copy-out-pay-line-2
     pay-line-requires
     add-i
     loop-less

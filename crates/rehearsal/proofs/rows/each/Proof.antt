@@ -8,10 +8,10 @@ use Rattle.rehearsal.proofs.rows.each.Statement.{statement}
 use Rattle.rehearsal.proofs.rows.each.Tie as tie
 
 abbrev Inv-loop : tie.InvT-loop
-Inv-loop text s₀ at₀ s at = at ≤ length text + 1
+Inv-loop text s₀ names₀ nets₀ at₀ s names nets at = at ≤ length text + 1
 
 abbrev μ-loop : tie.MeasureT-loop
-μ-loop text s₀ at₀ s at = length text + 1 - at
+μ-loop text s₀ names₀ nets₀ at₀ s names nets at = length text + 1 - at
 
 -- a line ends within the text
 within : (c : tie.After-end-of Inv-loop μ-loop) → c .end-of .result ≤ length (c .before .before .before .before .before .args .text .now)

@@ -1,48 +1,26 @@
--- What goes back to a seat at close, against the history's nets: a net is what goes back less what lay there.
-use mathlib.Core.Path.{_≡_, refl, subst₂}
+-- What a seat laid is what lies there for its pays, and what goes back to it is at most that and its cover.
+use mathlib.Core.Path.{_≡_, refl}
 use mathlib.Core.Bool.{Bool, true, false}
-use mathlib.Core.List.{List, [], _∷_}
 use Prim.Native.Nat.{ℕ, _+_, _≤_}
 use native.Mathlib.Decide.{decLe}
 use native.Mathlib.Nat.{le-refl}
 use native.Mathlib.Omega.{arith}
 use lib.Dec.{eqb}
-use lib.IntN.{ℤ}
 use lib.ListN.{length}
 use borrow.Author.Tests.{eqb-true, ne-eqb}
 use Rattle.lists.specs.Sum.{sumOf}
 use Rattle.lists.proofs.Sums.{sum-none}
-use Rattle.lists.proofs.Differences.{Diff, diff-pos, diff-add, diff-sub}
 use Rattle.options.specs.declared.Options.{Options}
 use Rattle.payment.specs.declared.bank.Score.{Score}
-use Rattle.rules.specs.SeatHand.{Played, playedOf}
-use Rattle.payment.specs.declared.pay.Pay.{Pay}
+use Rattle.rules.specs.SeatHand.{playedOf}
 use Rattle.payment.specs.Wager.{wager}
-use Rattle.payment.specs.Pay.{net}
-use Rattle.payment.specs.HandPay.{handPay}
-use Rattle.payment.specs.Insurance.{insurancePay}
+use Rattle.payment.proofs.Pays.{back-of}
 use Rattle.payment.proofs.cover.Bounds.{seat-cover}
 use Rattle.table.specs.declared.Seat.{Seat}
 use Rattle.table.specs.Seat.{missingPlace, stake, insurance, hands, laid, prizes, seatCover}
 use Rattle.table.specs.Aids.Sound.{SoundSeat}
 use Rattle.table.proofs.Facts.{insurance-most, few-hands, most-many, hands-many, no-hands}
-use Rattle.history.specs.Money.{handNets}
 use Rattle.close_spec.specs.Close.{seatBack}
-
-diff-to : {z : ℤ} {p m q n : ℕ} → Diff z p m → p ≡ q → m ≡ n → Diff z q n
-diff-to {z} d e f = subst₂ (λ (a b : ℕ). Diff z a b) e f d
-
-net-diff : (p : Pay) → Diff (net p) (p .back) (p .laid)
-net-diff p = diff-to (diff-sub (diff-pos (p .back)) (diff-pos (p .laid))) (omega arith) (omega arith)
-
-pub nets-diff : (o : Options) (opening : List ℕ) (bank : Score) (S : ℕ) (hs : List Played) → Diff (handNets o opening bank S hs) (sumOf (λ h. handPay o bank S h .back) hs) (sumOf (wager S) hs)
-unfolding sumOf
-nets-diff o opening bank S [] = diff-pos 0
-nets-diff o opening bank S (h ∷ hs) = diff-add (net-diff (handPay o bank S h)) (nets-diff o opening bank S hs)
-
-pub insurance-diff : (bank : Score) (I : ℕ) → Diff (net (insurancePay bank I)) (insurancePay bank I .back) I
-unfolding insurancePay
-insurance-diff bank I = net-diff (insurancePay bank I)
 
 -- in a dealt round a seat has laid the wagers of its hands and its insurance, which is at most its stake
 module _ (o : Options) (up i : ℕ) (s : Seat) (sound : SoundSeat o true up i s) where
@@ -81,4 +59,4 @@ module _ (o : Options) (up i : ℕ) (s : Seat) (sound : SoundSeat o true up i s)
   pub back-most : o .hands ≤ 4 → (bank : Score) → seatBack o bank s + prizes o s ≤ laid s + seatCover s
   unfolding seatBack prizes
   back-most few bank =
-      omega (arith, seat-cover o bank (stake s) (hands s) (insurance s) (few-hands o true up i s few sound) insured-most, wagers-most)
+      omega (arith, back-of o bank (stake s) (insurance s) (hands s), seat-cover o bank (stake s) (hands s) (insurance s) (few-hands o true up i s few sound) insured-most, wagers-most)

@@ -1,2 +1,0 @@
--- Laws of pay lines.
-pub mod Lines

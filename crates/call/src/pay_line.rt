@@ -1,0 +1,36 @@
+// The pay lines of close (document 01, "Payment"): each is a name and a net, in two arrays that the caller of a step lends. A name holds a byte each for
+// seat, place (0 where it is no hand) and kind; the net goes to the seat.
+ghost use mathlib.Core.Path.{_≡_};
+ghost use Rattle.call.specs.PayLine.{lineName, lineSeat, linePlace, lineKind};
+
+// As many places as there can be lines: nine seats have at most four hands and an insurance each.
+pub const LINES: usize = 45;
+
+// A line is for a hand or for an insurance.
+pub const HAND: u8 = 0;
+
+pub const INSURANCE: u8 = 1;
+
+pub fn line_name(seat: u8, place: u8, kind: u8) -> u32
+    ensures { λ r. ⌜ r ≡ lineName seat place kind ⌝ }
+{
+    (seat as u32) + 256 * (place as u32) + 65536 * (kind as u32)
+}
+
+pub fn line_seat(name: u32) -> u8
+    ensures { λ r. ⌜ r ≡ lineSeat name ⌝ }
+{
+    (name % 256) as u8
+}
+
+pub fn line_place(name: u32) -> u8
+    ensures { λ r. ⌜ r ≡ linePlace name ⌝ }
+{
+    (name / 256 % 256) as u8
+}
+
+pub fn line_kind(name: u32) -> u8
+    ensures { λ r. ⌜ r ≡ lineKind name ⌝ }
+{
+    (name / 65536 % 256) as u8
+}

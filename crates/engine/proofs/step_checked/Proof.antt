@@ -1,0 +1,210 @@
+-- Each arm is its call: close returns its step, and the outcome of every other call, whichever it was, becomes a step that shows nothing and leaves the
+-- lent arrays alone.
+use mathlib.Core.Path.{_≡_, refl, sym, _∙_, ap}
+use mathlib.Core.List.{List}
+use mathlib.Core.Logic.{⊎-elim}
+use Prim.Native.Nat.{ℕ}
+use denote.Ref.{now}
+use lib.IntN.{ℤ}
+use borrow.Author.Needs.{needs}
+use Rattle.call.specs.declared.Call.{Call}
+use Rattle.call.specs.Refusal.{Condition}
+use Rattle.call.specs.Answer.{emptyShown}
+use Rattle.table.specs.declared.Table.{Table}
+use Rattle.answer.specs.declared.outcome.Outcome.{Outcome}
+use Rattle.answer.specs.Outcome.{outcome}
+use Rattle.answer.specs.declared.reply.Reply.{Reply}
+use Rattle.answer.specs.Reply.{ReplyView, replyBy, givenBy, givenOf, plainReply}
+use Rattle.answer.proofs.reply.Laws.{plain}
+use Rattle.engine.specs.Step.{step}
+use Rattle.engine.proofs.step_checked.Statement.{statement}
+use Rattle.engine.proofs.step_checked.Tie as tie
+
+-- an arm whose call shows nothing
+plain-arm : (t : Table) (order names : List ℕ) (nets : List ℤ) (conditions : List Condition) (effect : Table) {c d : Call} {o : Outcome} {r : Reply}
+    → r ≡ plainReply o → o ≡ outcome conditions effect t → c ≡ d → replyBy conditions emptyShown effect t ≡ step t d order
+    → givenOf r names nets ≡ givenBy (step t c order) names nets
+plain-arm t order names nets conditions effect {c} {d} {o} {r} shown called known same =
+    plain names nets conditions effect t r (shown ∙ ap plainReply called) ∙ ap (λ (x : ReplyView). givenBy x names nets) (same ∙ ap (λ (x : Call). step t x order) (sym known))
+
+enum-known-c : tie.Need-enum-known-c
+enum-known-c c = search needs
+
+fill-requires : tie.Need-fill-requires
+fill-requires c κs = search needs
+
+enum-known-c-2 : tie.Need-enum-known-c-2
+enum-known-c-2 c = search needs
+
+credit-requires : tie.Need-credit-requires
+credit-requires c κs = search needs
+
+enum-known-c-3 : tie.Need-enum-known-c-3
+enum-known-c-3 c = search needs
+
+buy-requires : tie.Need-buy-requires
+buy-requires c κs = search needs
+
+enum-known-c-4 : tie.Need-enum-known-c-4
+enum-known-c-4 c = search needs
+
+cash-requires : tie.Need-cash-requires
+cash-requires c κs = search needs
+
+enum-known-c-5 : tie.Need-enum-known-c-5
+enum-known-c-5 c = search needs
+
+stake-requires : tie.Need-stake-requires
+stake-requires c κs = search needs
+
+enum-told : tie.Need-enum-told
+enum-told c = search needs
+
+deal-requires : tie.Need-deal-requires
+deal-requires c κs = search needs
+
+enum-known-c-6 : tie.Need-enum-known-c-6
+enum-known-c-6 c = search needs
+
+insure-requires : tie.Need-insure-requires
+insure-requires c κs = search needs
+
+enum-known-c-7 : tie.Need-enum-known-c-7
+enum-known-c-7 c = search needs
+
+stand-requires : tie.Need-stand-requires
+stand-requires c κs = search needs
+
+enum-known-c-8 : tie.Need-enum-known-c-8
+enum-known-c-8 c = search needs
+
+draw-requires : tie.Need-draw-requires
+draw-requires c κs = search needs
+
+enum-known-c-9 : tie.Need-enum-known-c-9
+enum-known-c-9 c = search needs
+
+double-requires : tie.Need-double-requires
+double-requires c κs = search needs
+
+enum-known-c-10 : tie.Need-enum-known-c-10
+enum-known-c-10 c = search needs
+
+split-requires : tie.Need-split-requires
+split-requires c κs = search needs
+
+enum-known-c-11 : tie.Need-enum-known-c-11
+enum-known-c-11 c = search needs
+
+surrender-requires : tie.Need-surrender-requires
+surrender-requires c κs = search needs
+
+enum-known-c-12 : tie.Need-enum-known-c-12
+enum-known-c-12 c = search needs
+
+even-requires : tie.Need-even-requires
+even-requires c κs = search needs
+
+enum-known-c-13 : tie.Need-enum-known-c-13
+enum-known-c-13 c = search needs
+
+five-requires : tie.Need-five-requires
+five-requires c κs = search needs
+
+enum-told-2 : tie.Need-enum-told-2
+enum-told-2 c = search needs
+
+close-requires : tie.Need-close-requires
+close-requires c κs = search needs
+
+returns : tie.Need-returns
+unfolding step
+returns c =
+    let told = c .before .before .before in
+    let start = told .before .before .before in
+    c .close .ensures
+    ∙ ap (λ (x : Call). givenBy (step (start .args .t) x (now (start .args .order))) (now (start .args .names)) (now (start .args .nets))) (sym (told .enum-told2 .given .1))
+
+enum-told-3 : tie.Need-enum-told-3
+enum-told-3 c = search needs
+
+void-requires : tie.Need-void-requires
+void-requires c κs = search needs
+
+enum-told-4 : tie.Need-enum-told-4
+enum-told-4 c = search needs
+
+load-requires : tie.Need-load-requires
+load-requires c κs = search needs
+
+plain-reply-requires : tie.Need-plain-reply-requires
+plain-reply-requires c κs = search needs
+
+-- the calls in the order of the arms; deal, void and load carry nothing, so that their arms bind one thing less
+returns-2 : tie.Need-returns-2
+unfolding step
+returns-2 c =
+    let start = c .before .before .before in
+    let t = start .args .t in
+    let order = now (start .args .order) in
+    let names = now (start .args .names) in
+    let nets = now (start .args .nets) in
+    let made = c .plain-reply .ensures in
+    ⊎-elim (λ w. plain-arm t order names nets _ _ made (w .4 ∙ w .3 .ensures) (w .1 .given .1) refl)
+    (⊎-elim (λ w. plain-arm t order names nets _ _ made (w .4 ∙ w .3 .ensures) (w .1 .given .1) refl)
+    (⊎-elim (λ w. plain-arm t order names nets _ _ made (w .4 ∙ w .3 .ensures) (w .1 .given .1) refl)
+    (⊎-elim (λ w. plain-arm t order names nets _ _ made (w .4 ∙ w .3 .ensures) (w .1 .given .1) refl)
+    (⊎-elim (λ w. plain-arm t order names nets _ _ made (w .4 ∙ w .3 .ensures) (w .1 .given .1) refl)
+    (⊎-elim (λ w. plain-arm t order names nets _ _ made (w .3 ∙ w .2 .ensures) (w .1 .given .1) refl)
+    (⊎-elim (λ w. plain-arm t order names nets _ _ made (w .4 ∙ w .3 .ensures) (w .1 .given .1) refl)
+    (⊎-elim (λ w. plain-arm t order names nets _ _ made (w .4 ∙ w .3 .ensures) (w .1 .given .1) refl)
+    (⊎-elim (λ w. plain-arm t order names nets _ _ made (w .4 ∙ w .3 .ensures) (w .1 .given .1) refl)
+    (⊎-elim (λ w. plain-arm t order names nets _ _ made (w .4 ∙ w .3 .ensures) (w .1 .given .1) refl)
+    (⊎-elim (λ w. plain-arm t order names nets _ _ made (w .4 ∙ w .3 .ensures) (w .1 .given .1) refl)
+    (⊎-elim (λ w. plain-arm t order names nets _ _ made (w .4 ∙ w .3 .ensures) (w .1 .given .1) refl)
+    (⊎-elim (λ w. plain-arm t order names nets _ _ made (w .4 ∙ w .3 .ensures) (w .1 .given .1) refl)
+    (⊎-elim (λ w. plain-arm t order names nets _ _ made (w .4 ∙ w .3 .ensures) (w .1 .given .1) refl)
+    (⊎-elim (λ w. plain-arm t order names nets _ _ made (w .3 ∙ w .2 .ensures) (w .1 .given .1) refl)
+    (λ w. plain-arm t order names nets _ _ made (w .3 ∙ w .2 .ensures) (w .1 .given .1) refl))))))))))))))) (c .before .match .came)
+
+pub step-checked-spec : {M : Type 1} → statement M
+step-checked-spec =
+    tie.close
+    (tie.spec
+    enum-known-c
+    fill-requires
+    enum-known-c-2
+    credit-requires
+    enum-known-c-3
+    buy-requires
+    enum-known-c-4
+    cash-requires
+    enum-known-c-5
+    stake-requires
+    enum-told
+    deal-requires
+    enum-known-c-6
+    insure-requires
+    enum-known-c-7
+    stand-requires
+    enum-known-c-8
+    draw-requires
+    enum-known-c-9
+    double-requires
+    enum-known-c-10
+    split-requires
+    enum-known-c-11
+    surrender-requires
+    enum-known-c-12
+    even-requires
+    enum-known-c-13
+    five-requires
+    enum-told-2
+    close-requires
+    returns
+    enum-told-3
+    void-requires
+    enum-told-4
+    load-requires
+    plain-reply-requires
+    returns-2)
