@@ -2,3 +2,4 @@
 pub mod conditions;
 pub mod outcome;
 pub mod reply;
+pub mod scores;

@@ -2,8 +2,9 @@
 pub mod Card
 pub mod Points
 pub mod Hand
--- Low sum, total and bust; how many cards a hand can come to.
+-- Low sum, total and bust; the total as it is called aloud; how many cards a hand can come to.
 pub mod Total
+pub mod Score
 pub mod Length
 -- Hands that the rules know by their cards.
 pub mod Natural

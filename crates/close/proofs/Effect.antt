@@ -8,6 +8,7 @@ use lib.ListN.{length}
 use Rattle.lists.specs.Sum.{sumOf}
 use Rattle.cards.specs.declared.hand.Hand.{Hand}
 use Rattle.cards.specs.Hand.{cardsOf, emptyHand}
+use Rattle.cards.specs.Score.{handScore}
 use Rattle.payment.specs.declared.bank.Score.{Score}
 use Rattle.payment.specs.Bank.{scoreOf}
 use Rattle.table.specs.declared.Shoe.{Shoe}
@@ -16,6 +17,9 @@ use Rattle.table.specs.Shoe.{withDrawn, discardDrawn}
 use Rattle.table.specs.Table.{makeTable}
 use Rattle.table.specs.Aids.WithSeats.{withSeats}
 use Rattle.table.specs.Money.{layout}
+use Rattle.answer.specs.declared.scores.Scores.{Scores}
+use Rattle.answer.specs.Scores.{noScores, withScore}
+use Rattle.answer.proofs.scores.Laws.{one-score}
 use Rattle.answer.specs.Reply.{makeReplyView, makeReply, givenBy, givenOf}
 use Rattle.close_spec.specs.BankDraw.{bankAtClose, closeTakes}
 use Rattle.close_spec.specs.PayLines.{allLines}
@@ -38,13 +42,14 @@ unfolding closeEffect
 close-is t u score laid back none shoe same seats lay goes empty cards = rw (seats, lay, goes, empty, cards, same)
 
 -- what an accepted close gives back
-pub settled-is : (t : Table) (bank : Hand) (score : Score) (u : Table) {names names-then : List ℕ} {nets nets-then : List ℤ} {lines : ℕ}
+pub settled-is : (t : Table) (bank : Hand) (score : Score) (u : Table) {names names-then : List ℕ} {nets nets-then : List ℤ} {lines : ℕ} (scores : Scores)
     → cardsOf bank ≡ bankAtClose t
     → score ≡ scoreOf (cardsOf bank)
     → LinesAt names nets 0 (allLines (t .options) score 0 (t .seats)) names-then nets-then lines
     → u ≡ closeEffect t
-    → givenOf (makeReply 0 bank lines u) names-then nets-then ≡ givenBy (makeReplyView 0 (closeShown t) (closeEffect t)) names nets
+    → scores ≡ withScore noScores (handScore (cardsOf bank))
+    → givenOf (makeReply 0 bank lines scores u) names-then nets-then ≡ givenBy (makeReplyView 0 (closeShown t) (closeEffect t)) names nets
 unfolding closeShown
-settled-is t bank score u {lines = lines} cards e shown effect =
+settled-is t bank score u {lines = lines} scores cards e shown effect said =
     let many : lines ≡ length (allLines (t .options) score 0 (t .seats)) = omega (arith, shown .behind-is) in
-    rw (shown .names-are, shown .nets-are, many, effect, scored t bank score cards e, cards)
+    rw (shown .names-are, shown .nets-are, many, effect, said, one-score (handScore (cardsOf bank)), scored t bank score cards e, cards)

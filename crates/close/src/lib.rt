@@ -28,10 +28,13 @@ use answer::outcome::Outcome;
 use answer::reply::Answer;
 use answer::reply::Reply;
 use answer::reply::plain_reply;
+use answer::scores::no_scores;
+use answer::scores::with_score;
 use call::pay_line::LINES;
 use call::refusal::asked;
 use cards::hand::Hand;
 use cards::hand::empty_hand;
+use cards::score::hand_score;
 use money::sums::table_sums;
 use payment::bank::Score;
 use payment::bank::must_draw;
@@ -63,7 +66,7 @@ fn closed(t: Table, bank: Hand, score: Score) -> Table
     next
 }
 
-// An accepted close: its bank's cards, its lines and its table.
+// An accepted close: its bank's cards and their score, its lines and its table.
 fn settled(t: Table, bank: Hand, names: &mut [u32; LINES], nets: &mut [i64; LINES]) -> Reply
     requires { ⌜ Closes t bank ⌝ }
     ensures { λ r. ⌜ givenOf r (now (names .exit)) (now (nets .exit)) ≡ givenBy (makeReplyView 0 (closeShown t) (closeEffect t)) (now (names .entry)) (now (nets .entry)) ⌝ }
@@ -71,11 +74,13 @@ fn settled(t: Table, bank: Hand, names: &mut [u32; LINES], nets: &mut [i64; LINE
     let score = score_of(bank);
     let lines = all_lines(names, nets, t, score);
     let table = closed(t, bank, score);
+    let scores = with_score(no_scores(), hand_score(bank));
     Reply {
         answer: Answer {
             number: 0,
             bank,
             lines,
+            scores,
         },
         table,
     }

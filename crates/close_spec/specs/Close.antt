@@ -6,6 +6,7 @@ use Rattle.lists.specs.Sum.{sumOf}
 use Rattle.call.specs.Refusal.{Condition}
 use Rattle.call.specs.Answer.{Shown}
 use Rattle.cards.specs.Hand.{emptyHand}
+use Rattle.cards.specs.Score.{handScore}
 use Rattle.options.specs.declared.Options.{Options}
 use Rattle.payment.specs.declared.bank.Score.{Score}
 use Rattle.payment.specs.Bank.{mustDraw, scoreOf}
@@ -49,6 +50,6 @@ closeEffect t =
     emptyHand
     (discardDrawn (withDrawn (t .shoe) (closeTakes t)))
 
--- Close returns the bank's cards and the pay lines.
+-- Close returns the bank's cards, the pay lines and the bank's score (request 2.1).
 unfoldable pub closeShown : Table → Shown
-closeShown t = record { bank = bankAtClose t; lines = allLines (t .options) (closeScore t) 0 (t .seats) }
+closeShown t = record { bank = bankAtClose t; lines = allLines (t .options) (closeScore t) 0 (t .seats); scores = handScore (bankAtClose t) ∷ [] }

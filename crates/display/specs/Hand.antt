@@ -5,7 +5,8 @@ use lib.Dec.{leb}
 use lib.ListN.{length, getD}
 use Rattle.cards.specs.declared.hand.Hand.{Hand}
 use Rattle.cards.specs.Hand.{cardsOf, emptyHand}
-use Rattle.cards.specs.Total.{total}
+use Rattle.cards.specs.declared.score.HandScore.{HandScore}
+use Rattle.cards.specs.Score.{handScore, noScore}
 use Rattle.rules.specs.declared.seat_hand.SeatHand.{SeatHand}
 use Rattle.rules.specs.SeatHand.{playedOf, dealt, notEnded}
 use Rattle.payment.specs.Wager.{wager}
@@ -15,16 +16,16 @@ use Rattle.table.specs.Seat.{missingPlace, stake, hands}
 use Rattle.display.specs.Seat.{seatOrEmpty}
 use Rattle.display.specs.declared.hand.HandShown.{HandShown}
 
--- A hand's cards and their total, its wager, where it comes from and how it ended.
-abbrev pub makeHandShown : Hand → ℕ → ℕ → ℕ → ℕ → HandShown
-makeHandShown hand total wager origin ended = record { hand = hand; total = total; wager = wager; origin = origin; ended = ended }
+-- A hand's cards, their total and whether it is soft (request 2.1), its wager, where it comes from and how it ended.
+abbrev pub makeHandShown : Hand → HandScore → ℕ → ℕ → ℕ → HandShown
+makeHandShown hand score wager origin ended = record { hand = hand; total = score .total; soft = score .soft; wager = wager; origin = origin; ended = ended }
 
 -- What is shown where there is no such hand.
 abbrev pub noHandShown : HandShown
-noHandShown = makeHandShown emptyHand 0 0 dealt notEnded
+noHandShown = makeHandShown emptyHand noScore 0 dealt notEnded
 
 abbrev pub handValues : ℕ → SeatHand → HandShown
-handValues stake h = makeHandShown (h .hand) (total (cardsOf (h .hand))) (wager stake (playedOf h)) (h .origin) (h .ended)
+handValues stake h = makeHandShown (h .hand) (handScore (cardsOf (h .hand))) (wager stake (playedOf h)) (h .origin) (h .ended)
 
 -- The hand in that place of a seat.
 unfoldable pub placeShown : Seat → ℕ → HandShown

@@ -4,7 +4,7 @@ ghost use Rattle.display.specs.Hand.{noHandShown, handValues, placeShown
 use crate::seat::seat_or_empty;
 use cards::hand::Hand;
 use cards::hand::empty_hand;
-use cards::total::total;
+use cards::score::hand_score;
 use payment::wager::wager;
 use rules::seat_hand::DEALT;
 use rules::seat_hand::NOT_ENDED;
@@ -13,10 +13,11 @@ use rules::seat_hand::used;
 use table::Seat;
 use table::Table;
 
-// A hand's cards and their total, its wager, where it comes from and how it ended.
+// A hand's cards, their total and whether it is soft, its wager, where it comes from and how it ended.
 pub struct HandShown {
     pub hand: Hand,
-    pub total: u32,
+    pub total: u8,
+    pub soft: bool,
     pub wager: u64,
     pub origin: u8,
     pub ended: u8,
@@ -28,6 +29,7 @@ fn no_hand() -> HandShown
     HandShown {
         hand: empty_hand(),
         total: 0,
+        soft: false,
         wager: 0,
         origin: DEALT,
         ended: NOT_ENDED,
@@ -38,9 +40,11 @@ fn hand_values(stake: u32, h: SeatHand) -> HandShown
     ensures { λ r. ⌜ r ≡ handValues stake h ⌝ }
 {
     let hand = h.hand;
+    let score = hand_score(hand);
     HandShown {
         hand,
-        total: total(hand),
+        total: score.total,
+        soft: score.soft,
         wager: wager(stake, h),
         origin: h.origin,
         ended: h.ended,

@@ -1,10 +1,13 @@
 -- Document 01, "The seventeen calls": one step. The number is the first whose condition holds; at 0 the effect is the next table, else the table stays.
+use mathlib.Core.Bool.{cond}
 use mathlib.Core.List.{List}
 use Prim.Native.Nat.{ℕ}
+use lib.Dec.{eqb}
 use Rattle.call.specs.declared.Call.{Call}
 use Rattle.call.specs.declared.Call.the-variants.{Fill, Credit, Buy, Cash, Stake, Deal, Insure, Stand, Draw, Double, Split, Surrender, Even, Five, Close, Void, Load}
 use Rattle.call.specs.Refusal.{Condition}
-use Rattle.call.specs.Answer.{Shown, emptyShown}
+use Rattle.call.specs.Call.{kind}
+use Rattle.call.specs.Answer.{Shown, scored}
 use Rattle.table.specs.declared.Table.{Table}
 use Rattle.answer.specs.Reply.{ReplyView, replyBy}
 use Rattle.cashier_spec.specs.Fill.{fillConditions, fillEffect}
@@ -24,6 +27,7 @@ use Rattle.decisions_spec.specs.Split.{splitConditions, splitEffect}
 use Rattle.decisions_spec.specs.Even.{evenConditions, evenEffect}
 use Rattle.decisions_spec.specs.Five.{fiveConditions, fiveEffect}
 use Rattle.close_spec.specs.Close.{closeConditions, closeEffect, closeShown}
+use Rattle.engine.specs.Scores.{handScores}
 
 -- A call's conditions on a table, with the order that is lent beside it.
 abbrev pub conditions : Table → Call → List ℕ → List Condition
@@ -65,25 +69,10 @@ effect t Close order = closeEffect t
 effect t Void order = voidEffect t
 effect t Load order = loadEffect t order
 
--- What an accepted call shows, `after` being the table that it leaves: only close shows anything.
+-- What an accepted call shows, `after` being the table that it leaves: close the bank's cards and score and the pay lines, every other call the scores of its
+-- hands.
 abbrev pub shown : Table → Call → Table → Shown
-shown t (Fill n) after = emptyShown
-shown t (Credit n) after = emptyShown
-shown t (Buy at n) after = emptyShown
-shown t (Cash at n) after = emptyShown
-shown t (Stake at n) after = emptyShown
-shown t Deal after = emptyShown
-shown t (Insure at n) after = emptyShown
-shown t (Stand at) after = emptyShown
-shown t (Draw at) after = emptyShown
-shown t (Double at) after = emptyShown
-shown t (Split at) after = emptyShown
-shown t (Surrender at) after = emptyShown
-shown t (Even at) after = emptyShown
-shown t (Five at) after = emptyShown
-shown t Close after = closeShown t
-shown t Void after = emptyShown
-shown t Load after = emptyShown
+shown t c after = cond (eqb (kind c) 15) (closeShown t) (scored (handScores t c after))
 
 -- One step: the answer and the next table.
 unfoldable pub step : Table → Call → List ℕ → ReplyView

@@ -1,13 +1,17 @@
 // One step over all seventeen calls: it takes the enum apart. Beside the call the caller lends the order that a load reads, which every other call ignores, and
 // two arrays for the names and nets of the pay lines, into which only an accepted close writes.
+mod scores;
+
 ghost use mathlib.Core.Path.{_≡_};
 ghost use mathlib.Core.Bool.{false};
 ghost use Rattle.table.specs.Broken.{broken as brokenBy};
 ghost use Rattle.answer.specs.Reply.{givenBy, givenOf};
 ghost use Rattle.engine.specs.Step.{step as stepBy};
+use crate::scores::scores_of;
 use answer::outcome::Outcome;
 use answer::reply::Reply;
 use answer::reply::plain_reply;
+use answer::reply::scored_reply;
 use broken::broken;
 use call::Call;
 use call::pay_line::LINES;
@@ -46,7 +50,7 @@ pub fn step_checked(
         Call::Void => close::void::void(t),
         Call::Load => cashier::load::load(t, order),
     };
-    plain_reply(o)
+    scored_reply(o, scores_of(t, c, o))
 }
 
 // A step on any table: 1 is asked here, once.

@@ -159,8 +159,10 @@ pub(crate) fn called(
     let after = played(t, letter, at, amount, order, names, nets);
     let table = after.table;
     let answer = after.answer;
+    let aloud = answer.scores;
     lines::called(letter, answer, names, nets, table, &row[21..]);
     let mut next = s;
     next.table = table;
+    next.aloud = aloud;
     next
 }

@@ -1,6 +1,7 @@
 // What the rehearsal writes: a line for each call, then the table or the pay lines that a row asks for.
 ghost use Prim.Native.Nat.{_≤_, _+_};
 use answer::reply::Answer;
+use answer::scores::Scores;
 use call::pay_line::INSURANCE;
 use call::pay_line::LINES;
 use call::pay_line::line_kind;
@@ -199,11 +200,36 @@ fn state(origin: u8, ended: u8) {
     );
 }
 
+// A total, and the word soft where an ace counts eleven.
+fn score(total: u8, soft: bool) {
+    figure(total as u64);
+    if soft {
+        words(b" soft");
+    }
+}
+
+// What the dealer called aloud.
+pub(crate) fn aloud(s: Scores) {
+    let n = s.count;
+    words(b"  aloud");
+    if n == 0 {
+        words(b" nothing");
+    }
+    for i in 0usize..9 {
+        if i < n {
+            let one = s.each[i];
+            score(one.total, one.soft);
+        }
+    }
+    words(b"\n");
+}
+
 fn hand(place: usize, h: HandShown) {
     let held = h.hand;
     counted(b"  hand", place as u64);
     cards(held);
-    counted(b" total", h.total as u64);
+    words(b" total");
+    score(h.total, h.soft);
     counted(b" wager", h.wager);
     state(h.origin, h.ended);
     words(b"\n");

@@ -1,4 +1,5 @@
 // A line for each example: its words, then what the rule answers.
+use cards::score::HandScore;
 use libc::STDOUT_FILENO;
 use payment::pay::Pay;
 
@@ -15,6 +16,17 @@ pub(crate) fn number(words: &[u8], n: u64) {
     io::write_all(STDOUT_FILENO, words);
     io::write_all(STDOUT_FILENO, b": ");
     io::print_decimal(STDOUT_FILENO, n);
+    io::write_all(STDOUT_FILENO, b"\n");
+}
+
+// The total, and soft where an ace counts eleven.
+pub(crate) fn score(words: &[u8], s: HandScore) {
+    io::write_all(STDOUT_FILENO, words);
+    io::write_all(STDOUT_FILENO, b": ");
+    io::print_decimal(STDOUT_FILENO, s.total as u64);
+    if s.soft {
+        io::write_all(STDOUT_FILENO, b" soft");
+    }
     io::write_all(STDOUT_FILENO, b"\n");
 }
 

@@ -7,8 +7,10 @@ use crate::examples::hand_of;
 use crate::examples::house;
 use crate::examples::seat_hand;
 use crate::lines::answer;
+use crate::lines::score;
 use crate::paid;
 use crate::permitted::permits;
+use cards::score::hand_score;
 use options::Options;
 use payment::bank::score_of;
 use rules::seat_hand::SeatHand;
@@ -55,6 +57,7 @@ fn of_hand(rule: u8, row: &[u8], o: Options, up: u8, many: usize)
     let h = lone_hand(row);
     match rule {
         b'A'..=b'Z' => answer(words, permits(rule, o, up, many, h)),
+        b's' => score(words, hand_score(hand_of(&row[16..30]))),
         _ => awaited::of_hand(rule, words, o, up, many, h),
     }
 }

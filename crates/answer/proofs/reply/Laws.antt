@@ -1,29 +1,34 @@
--- A call that shows nothing, and a refused close, give the step that the definition says, and leave the lent arrays alone.
+-- A call that shows no more than scores, and a refused close, give the step that the definition says, and leave the lent arrays alone.
 use mathlib.Core.Path.{_≡_, refl, _∙_, ap}
 use mathlib.Core.Bool.{Bool, true, false, cond}
-use mathlib.Core.List.{List}
+use mathlib.Core.List.{List, []}
 use Prim.Native.Nat.{ℕ}
 use lib.Dec.{eqb}
 use lib.IntN.{ℤ}
 use borrow.Author.Tests.{ne-eqb}
 use Rattle.call.specs.Refusal.{Condition, first}
-use Rattle.call.specs.Answer.{Shown, emptyShown}
+use Rattle.call.specs.Answer.{Shown, scored, emptyShown}
+use Rattle.cards.specs.declared.score.HandScore.{HandScore}
 use Rattle.table.specs.declared.Table.{Table}
 use Rattle.answer.specs.declared.reply.Reply.{Reply}
+use Rattle.answer.specs.declared.scores.Scores.{Scores}
+use Rattle.answer.specs.Scores.{scoresOf}
 use Rattle.answer.specs.Outcome.{makeOutcome, outcome}
-use Rattle.answer.specs.Reply.{makeReplyView, replyBy, Given, givenBy, givenOf, plainReply}
+use Rattle.answer.specs.Reply.{makeReplyView, replyBy, Given, givenBy, givenOf, scoredReply, plainReply}
 
-both-nothing : (b : Bool) → emptyShown ≡ cond b emptyShown emptyShown
-both-nothing true = refl
-both-nothing false = refl
+scored-or-nothing : (b : Bool) (ss : List HandScore) → scored (cond b ss []) ≡ cond b (scored ss) emptyShown
+scored-or-nothing true ss = refl
+scored-or-nothing false ss = refl
 
 module _ (names : List ℕ) (nets : List ℤ) (conditions : List Condition) (effect t : Table) where
-  -- a call that shows nothing
-  pub plain : (r : Reply) → r ≡ plainReply (outcome conditions effect t) → givenOf r names nets ≡ givenBy (replyBy conditions emptyShown effect t) names nets
+  -- a call that shows scores and no more, none where it is refused
+  pub plain : (ss : List HandScore) (scores : Scores) (r : Reply) → scoresOf scores ≡ cond (eqb (first conditions) 0) ss [] → r ≡ scoredReply (outcome conditions effect t) scores
+      → givenOf r names nets ≡ givenBy (replyBy conditions (scored ss) effect t) names nets
   unfolding replyBy outcome
-  plain r e =
+  plain ss scores r same e =
       ap (λ (x : Reply). givenOf x names nets) e
-      ∙ ap (λ (s : Shown). givenBy (makeReplyView (first conditions) s (cond (eqb (first conditions) 0) effect t)) names nets) (both-nothing (eqb (first conditions) 0))
+      ∙ ap (λ (xs : List HandScore). givenBy (makeReplyView (first conditions) (scored xs) (cond (eqb (first conditions) 0) effect t)) names nets) same
+      ∙ ap (λ (s : Shown). givenBy (makeReplyView (first conditions) s (cond (eqb (first conditions) 0) effect t)) names nets) (scored-or-nothing (eqb (first conditions) 0) ss)
 
   module _ (shown : Shown) where
     -- a refused call shows nothing

@@ -39,13 +39,13 @@ after-requires : tie.Need-after-requires Inv-loop μ-loop
 after-requires c κs = search needs
 
 add-n : tie.Need-add-n Inv-loop μ-loop
-add-n c = omega arith
+add-n c = let turn = c .before .before .before .before .before .before .before .before .before .before .before in omega (arith, turn .loop-test .taken, turn .before .loop .inv .0, turn .before .loop .inv .1)
 
 loop-less : tie.Need-loop-less Inv-loop μ-loop
 loop-less c = omega arith
 
 loop-again : tie.Need-loop-again Inv-loop μ-loop
-loop-again c = omega arith
+loop-again c = let turn = c .before .before .before .before .before .before .before .before .before .before .before in omega (arith, turn .loop-test .taken, turn .before .loop .inv .0, turn .before .loop .inv .1)
 
 broken-requires : tie.Need-broken-requires Inv-loop μ-loop
 broken-requires c κs = search needs

@@ -8,10 +8,10 @@ use native.Mathlib.Omega.{arith}
 use lib.Dec.{leb}
 use lib.ListN.{length, length-append}
 use borrow.Author.Tests.{lt-ltb, le-ltb, le-leb, ltb-true}
-use Rattle.lists.proofs.Sums.{sum-least, sum-least-none, sum-snoc}
+use Rattle.lists.proofs.Sums.{sum-most, sum-least, sum-least-none, sum-snoc}
 use Rattle.cards.specs.Card.{isAce}
 use Rattle.cards.specs.Points.{pointsOf}
-use Rattle.cards.proofs.card.PointsLaws.{points-least, points-no-ace}
+use Rattle.cards.proofs.card.PointsLaws.{points-least, points-most, points-no-ace}
 use Rattle.cards.specs.Length.{couldBePlayed}
 use Rattle.cards.specs.Total.{lowSum, hasAce, total}
 
@@ -33,6 +33,10 @@ low-le-total cards = raised (hasAce cards && leb (lowSum cards + 10) 21) (lowSum
 pub total-le : (cards : List ℕ) → total cards ≤ lowSum cards + 10
 unfolding total
 total-le cards = raised (hasAce cards && leb (lowSum cards + 10) 21) (lowSum cards) .1
+
+-- ten points a card, and ten more
+pub total-most : (cards : List ℕ) → total cards ≤ 10 * length cards + 10
+total-most cards = omega (arith, total-le cards, sum-most pointsOf 10 points-most cards)
 
 pub soft-total : (cards : List ℕ) → hasAce cards ≡ true → lowSum cards + 10 ≤ 21 → total cards ≡ lowSum cards + 10
 unfolding total

@@ -1,31 +1,45 @@
--- Each arm is its call: close returns its step, and the outcome of every other call, whichever it was, becomes a step that shows nothing and leaves the
--- lent arrays alone.
+-- Each arm is its call: close returns its step, and the outcome of every other call, whichever it was, becomes a step that shows no more than its scores and leaves
+-- the lent arrays alone.
 use mathlib.Core.Path.{_≡_, refl, sym, _∙_, ap}
-use mathlib.Core.List.{List}
+use mathlib.Core.Bool.{Bool, true, false, cond}
+use mathlib.Core.List.{List, []}
 use mathlib.Core.Logic.{⊎-elim}
 use Prim.Native.Nat.{ℕ}
 use denote.Ref.{now}
+use lib.Dec.{eqb}
 use lib.IntN.{ℤ}
 use borrow.Author.Needs.{needs}
 use Rattle.call.specs.declared.Call.{Call}
-use Rattle.call.specs.Refusal.{Condition}
-use Rattle.call.specs.Answer.{emptyShown}
+use Rattle.call.specs.Refusal.{Condition, first}
+use Rattle.call.specs.Answer.{scored}
 use Rattle.table.specs.declared.Table.{Table}
 use Rattle.answer.specs.declared.outcome.Outcome.{Outcome}
 use Rattle.answer.specs.Outcome.{outcome}
+use Rattle.answer.specs.declared.scores.Scores.{Scores}
+use Rattle.answer.specs.Scores.{scoresOf}
 use Rattle.answer.specs.declared.reply.Reply.{Reply}
-use Rattle.answer.specs.Reply.{ReplyView, replyBy, givenBy, givenOf, plainReply}
+use Rattle.answer.specs.Reply.{ReplyView, replyBy, givenBy, givenOf, scoredReply}
 use Rattle.answer.proofs.reply.Laws.{plain}
+use Rattle.engine.specs.Scores.{handScores}
 use Rattle.engine.specs.Step.{step}
 use Rattle.engine.proofs.step_checked.Statement.{statement}
 use Rattle.engine.proofs.step_checked.Tie as tie
 
--- an arm whose call shows nothing
-plain-arm : (t : Table) (order names : List ℕ) (nets : List ℤ) (conditions : List Condition) (effect : Table) {c d : Call} {o : Outcome} {r : Reply}
-    → r ≡ plainReply o → o ≡ outcome conditions effect t → c ≡ d → replyBy conditions emptyShown effect t ≡ step t d order
-    → givenOf r names nets ≡ givenBy (step t c order) names nets
-plain-arm t order names nets conditions effect {c} {d} {o} {r} shown called known same =
-    plain names nets conditions effect t r (shown ∙ ap plainReply called) ∙ ap (λ (x : ReplyView). givenBy x names nets) (same ∙ ap (λ (x : Call). step t x order) (sym known))
+-- the scores of an outcome are those of the effect: a refused call shows none
+shown-scores : (t effect : Table) (c : Call) (b : Bool) → cond b (handScores t c (cond b effect t)) [] ≡ cond b (handScores t c effect) []
+shown-scores t effect c true = refl
+shown-scores t effect c false = refl
+
+-- an arm whose call shows no more than scores
+plain-arm : (t : Table) (order names : List ℕ) (nets : List ℤ) (conditions : List Condition) (effect : Table) {c d asked : Call} {o : Outcome} {scores : Scores} {r : Reply}
+    → r ≡ scoredReply o scores → scoresOf scores ≡ cond (eqb (o .number) 0) (handScores t asked (o .table)) [] → asked ≡ d → o ≡ outcome conditions effect t → c ≡ d
+    → replyBy conditions (scored (handScores t d effect)) effect t ≡ step t d order → givenOf r names nets ≡ givenBy (step t c order) names nets
+unfolding outcome
+plain-arm t order names nets conditions effect {c} {d} {asked} {o} {scores} {r} shown told of called known same =
+    let right : scoresOf scores ≡ cond (eqb (first conditions) 0) (handScores t d effect) []
+    = told ∙ rw (called, of) (shown-scores t effect d (eqb (first conditions) 0)) in
+    plain names nets conditions effect t (handScores t d effect) scores r right (shown ∙ ap (λ (x : Outcome). scoredReply x scores) called)
+    ∙ ap (λ (x : ReplyView). givenBy x names nets) (same ∙ ap (λ (x : Call). step t x order) (sym known))
 
 enum-known-c : tie.Need-enum-known-c
 enum-known-c c = search needs
@@ -137,35 +151,39 @@ enum-told-4 c = search needs
 load-requires : tie.Need-load-requires
 load-requires c κs = search needs
 
-plain-reply-requires : tie.Need-plain-reply-requires
-plain-reply-requires c κs = search needs
+scores-of-requires : tie.Need-scores-of-requires
+scores-of-requires c κs = search needs
+
+scored-reply-requires : tie.Need-scored-reply-requires
+scored-reply-requires c κs = search needs
 
 -- the calls in the order of the arms; deal, void and load carry nothing, so that their arms bind one thing less
 returns-2 : tie.Need-returns-2
 unfolding step
 returns-2 c =
-    let start = c .before .before .before in
+    let start = c .before .before .before .before in
     let t = start .args .t in
     let order = now (start .args .order) in
     let names = now (start .args .names) in
     let nets = now (start .args .nets) in
-    let made = c .plain-reply .ensures in
-    ⊎-elim (λ w. plain-arm t order names nets _ _ made (w .4 ∙ w .3 .ensures) (w .1 .given .1) refl)
-    (⊎-elim (λ w. plain-arm t order names nets _ _ made (w .4 ∙ w .3 .ensures) (w .1 .given .1) refl)
-    (⊎-elim (λ w. plain-arm t order names nets _ _ made (w .4 ∙ w .3 .ensures) (w .1 .given .1) refl)
-    (⊎-elim (λ w. plain-arm t order names nets _ _ made (w .4 ∙ w .3 .ensures) (w .1 .given .1) refl)
-    (⊎-elim (λ w. plain-arm t order names nets _ _ made (w .4 ∙ w .3 .ensures) (w .1 .given .1) refl)
-    (⊎-elim (λ w. plain-arm t order names nets _ _ made (w .3 ∙ w .2 .ensures) (w .1 .given .1) refl)
-    (⊎-elim (λ w. plain-arm t order names nets _ _ made (w .4 ∙ w .3 .ensures) (w .1 .given .1) refl)
-    (⊎-elim (λ w. plain-arm t order names nets _ _ made (w .4 ∙ w .3 .ensures) (w .1 .given .1) refl)
-    (⊎-elim (λ w. plain-arm t order names nets _ _ made (w .4 ∙ w .3 .ensures) (w .1 .given .1) refl)
-    (⊎-elim (λ w. plain-arm t order names nets _ _ made (w .4 ∙ w .3 .ensures) (w .1 .given .1) refl)
-    (⊎-elim (λ w. plain-arm t order names nets _ _ made (w .4 ∙ w .3 .ensures) (w .1 .given .1) refl)
-    (⊎-elim (λ w. plain-arm t order names nets _ _ made (w .4 ∙ w .3 .ensures) (w .1 .given .1) refl)
-    (⊎-elim (λ w. plain-arm t order names nets _ _ made (w .4 ∙ w .3 .ensures) (w .1 .given .1) refl)
-    (⊎-elim (λ w. plain-arm t order names nets _ _ made (w .4 ∙ w .3 .ensures) (w .1 .given .1) refl)
-    (⊎-elim (λ w. plain-arm t order names nets _ _ made (w .3 ∙ w .2 .ensures) (w .1 .given .1) refl)
-    (λ w. plain-arm t order names nets _ _ made (w .3 ∙ w .2 .ensures) (w .1 .given .1) refl))))))))))))))) (c .before .match .came)
+    let made = c .scored-reply .ensures in
+    let told = c .before .scores-of .ensures in
+    ⊎-elim (λ w. plain-arm t order names nets _ _ made told (w .4) (w .5 ∙ w .3 .ensures) (w .1 .given .1) refl)
+    (⊎-elim (λ w. plain-arm t order names nets _ _ made told (w .4) (w .5 ∙ w .3 .ensures) (w .1 .given .1) refl)
+    (⊎-elim (λ w. plain-arm t order names nets _ _ made told (w .4) (w .5 ∙ w .3 .ensures) (w .1 .given .1) refl)
+    (⊎-elim (λ w. plain-arm t order names nets _ _ made told (w .4) (w .5 ∙ w .3 .ensures) (w .1 .given .1) refl)
+    (⊎-elim (λ w. plain-arm t order names nets _ _ made told (w .4) (w .5 ∙ w .3 .ensures) (w .1 .given .1) refl)
+    (⊎-elim (λ w. plain-arm t order names nets _ _ made told (w .3 ∙ w .1 .given .1) (w .4 ∙ w .2 .ensures) (w .1 .given .1) refl)
+    (⊎-elim (λ w. plain-arm t order names nets _ _ made told (w .4) (w .5 ∙ w .3 .ensures) (w .1 .given .1) refl)
+    (⊎-elim (λ w. plain-arm t order names nets _ _ made told (w .4) (w .5 ∙ w .3 .ensures) (w .1 .given .1) refl)
+    (⊎-elim (λ w. plain-arm t order names nets _ _ made told (w .4) (w .5 ∙ w .3 .ensures) (w .1 .given .1) refl)
+    (⊎-elim (λ w. plain-arm t order names nets _ _ made told (w .4) (w .5 ∙ w .3 .ensures) (w .1 .given .1) refl)
+    (⊎-elim (λ w. plain-arm t order names nets _ _ made told (w .4) (w .5 ∙ w .3 .ensures) (w .1 .given .1) refl)
+    (⊎-elim (λ w. plain-arm t order names nets _ _ made told (w .4) (w .5 ∙ w .3 .ensures) (w .1 .given .1) refl)
+    (⊎-elim (λ w. plain-arm t order names nets _ _ made told (w .4) (w .5 ∙ w .3 .ensures) (w .1 .given .1) refl)
+    (⊎-elim (λ w. plain-arm t order names nets _ _ made told (w .4) (w .5 ∙ w .3 .ensures) (w .1 .given .1) refl)
+    (⊎-elim (λ w. plain-arm t order names nets _ _ made told (w .3 ∙ w .1 .given .1) (w .4 ∙ w .2 .ensures) (w .1 .given .1) refl)
+    (λ w. plain-arm t order names nets _ _ made told (w .3 ∙ w .1 .given .1) (w .4 ∙ w .2 .ensures) (w .1 .given .1) refl))))))))))))))) (c .before .before .match .came)
 
 pub step-checked-spec : {M : Type 1} → statement M
 step-checked-spec =
@@ -206,5 +224,6 @@ step-checked-spec =
     void-requires
     enum-told-4
     load-requires
-    plain-reply-requires
+    scores-of-requires
+    scored-reply-requires
     returns-2)

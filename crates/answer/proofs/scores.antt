@@ -1,0 +1,2 @@
+-- Laws of scores: one, two, and one behind others.
+pub mod Laws

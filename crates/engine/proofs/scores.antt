@@ -1,0 +1,2 @@
+-- What the scores of a step share.
+pub mod Laws
