@@ -15,6 +15,7 @@ use Rattle.lists.specs.Flat.{flat}
 use Rattle.lists.proofs.Sums.{sum-append, sum-flat, sum-none, sum-ones, sum-take}
 use Rattle.lists.proofs.Places.{same-taken, taken-same}
 use Rattle.cards.specs.Hand.{withCard}
+use Rattle.payment.specs.Cover.{cover as coverOf}
 use Rattle.table.specs.declared.Money.{Money}
 use Rattle.table.specs.declared.Seat.{Seat}
 use Rattle.table.specs.declared.Table.{Table}
@@ -326,5 +327,5 @@ module _ (t : Table) (shaped : Shaped t) (ok : DealAccepted t) where
     bank = omega arith;
     round = λ dealt. some-staked ∙ ok .some;
     money = omega (arith, deal-money, ok .sound .money);
-    cover = λ dealt. omega (arith, over-money (λ m. 20 * m .stake), ok .covered);
+    cover = λ dealt. omega (arith, over-money (λ m. coverOf (m .stake)), ok .covered);
   }

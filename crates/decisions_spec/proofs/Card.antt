@@ -23,10 +23,10 @@ use Rattle.rules.specs.Waits.{waits}
 use Rattle.rules.specs.Permits.{takesCards}
 use Rattle.payment.specs.Wager.{wager}
 use Rattle.payment.specs.Prize.{prize}
-use Rattle.payment.proofs.Bounds.{wager-single, prize-none, prize-same, prize-most}
+use Rattle.payment.proofs.Bounds.{wager-single, prize-none, prize-most}
 use Rattle.history.specs.Entry.{Entry, isInsure, isDraw, isDouble}
 use Rattle.history.specs.Cards.{Cards, callTakes}
-use Rattle.history.specs.Hands.{played, missingHand, nextCard, grown}
+use Rattle.history.specs.Hands.{played, missingHand, nextCard}
 use Rattle.history.specs.Money.{lays, wins}
 use Rattle.table.specs.declared.Money.{Money}
 use Rattle.table.specs.declared.Table.{Table}
@@ -46,7 +46,7 @@ use Rattle.decisions_spec.specs.Turn.{waitingPlaceOf, waitingHandOf, may
 use Rattle.decisions_spec.specs.Card.{cardAhead, grownHand, cardEffect}
 use Rattle.decisions_spec.proofs.Acting.{Waiting}
 use Rattle.decisions_spec.proofs.Turn.{TurnAccepted, turn-waiting}
-use Rattle.decisions_spec.proofs.Decision.{makes, Guest, of-seat, draws-some, Decision}
+use Rattle.decisions_spec.proofs.Decision.{makes, Guest, draws-some, Decision}
 use Rattle.decisions_spec.proofs.HandChange.{HandChange, hand-decided}
 
 -- the history's next cards are the table's
@@ -65,6 +65,8 @@ pub record Growing (t : Table) (e : Entry) (j more code : ℕ) : Type 0 where
   pub decides : (c : Cards) (h : Played) → getD (hands (seatAt t j)) (waitingPlaceOf t j) missingHand ≡ h → h .ended ≡ notEnded
       → makes (hands (seatAt t j)) (waitingPlaceOf t j) c e ≡ set (hands (seatAt t j)) (waitingPlaceOf t j) (played (h .cards ++ (nextCard c 0 ∷ [])) (h .origin) code)
   pub lays-it : lays j (stake (seatAt t j)) e ≡ more
+  pub wins-it : (o : Options) (c : Cards) (S : ℕ) (hs : List Played) (h : Played) → getD hs (waitingPlace o (getD (c .bank) 0 0) hs) missingHand ≡ h → h .ended ≡ notEnded
+      → wins o c j S hs e ≡ prize o S (played (h .cards ++ (nextCard c 0 ∷ [])) (h .origin) code)
   pub wager-is : (h : Played) → h .ended ≡ code → wager (stake (seatAt t j)) h ≡ stake (seatAt t j) + more
 
 -- what its conditions give; the ending fits the hand with the card
@@ -131,15 +133,13 @@ module _ (t : Table) (e : Entry) (j more code : ℕ) (shaped : Shaped t) (sound 
   history-cards c agree = ap (λ (x : ℕ). cardsOf (waitingHandOf t j .hand) ++ (x ∷ [])) (next-card t c 0 agree (omega (arith, a .left))) ∙ sym cards
 
   wins-won : (c : Cards) → CardsAgree c t → wins (t .options) c j (stake (seatAt t j)) (hands (seatAt t j)) e ≡ won
-  unfolding wins
   wins-won c agree =
       let o = t .options in
+      let S = stake (seatAt t j) in
       let hs = hands (seatAt t j) in
-      let prize-of : Played → ℕ = λ x. prize o (stake (seatAt t j)) (grown x (nextCard c 0)) in
-      simp (of-seat e j (g .guest), g .gives)
-      (ap (λ (b : List ℕ). prize-of (getD hs (waitingPlace o (getD b 0 0) hs) missingHand)) (sym (agree .bank))
-      ∙ ap prize-of same-hand
-      ∙ prize-same o (stake (seatAt t j)) (grown (playedOf (waitingHandOf t j)) (nextCard c 0)) (playedOf (grownHand t j code)) (history-cards c agree))
+      let h = playedOf (waitingHandOf t j) in
+      g .wins-it o c S hs h (ap (λ (b : List ℕ). getD hs (waitingPlace o (getD b 0 0) hs) missingHand) (sym (agree .bank)) ∙ same-hand) (w .not-ended)
+      ∙ ap (λ (xs : List ℕ). prize o S (played xs (h .origin) code)) (history-cards c agree)
 
   -- the hand has three cards or more
   card-events : Events e (hands (seatAt t j)) (set (hands (seatAt t j)) (waitingPlaceOf t j) (playedOf (grownHand t j code)))

@@ -16,6 +16,7 @@ use Rattle.options.specs.declared.Options.{Options}
 use Rattle.rules.specs.SeatHand.{Played, playedOf, splitAces, byDouble, hasTwoCards}
 use Rattle.rules.specs.Waits.{waits}
 use Rattle.rules.specs.Permits.{takesCards, permitsDouble}
+use Rattle.payment.specs.Prize.{prize}
 use Rattle.payment.proofs.Bounds.{wager-double}
 use Rattle.call.specs.declared.At.{At}
 use Rattle.call.specs.declared.Call.the-variants.{Double}
@@ -23,7 +24,7 @@ use Rattle.call.specs.Refusal.{first}
 use Rattle.history.specs.Aids.MakeEntry.{entry}
 use Rattle.history.specs.Cards.{callTakes}
 use Rattle.history.specs.Hands.{played, nextCard, grown, finished, decide}
-use Rattle.history.specs.Money.{lays}
+use Rattle.history.specs.Money.{lays, wins}
 use Rattle.table.specs.declared.Table.{Table}
 use Rattle.table.specs.Seat.{purse, stake, hands}
 use Rattle.table.specs.Table.{seatAt, up, cardsLeft}
@@ -73,7 +74,7 @@ module _ (o : Options) (up many : ℕ) (h : Played) (permitted : permitsDouble o
 
 module _ (t : Table) (at : At) (order : List ℕ) where
   growing : Growing t (entry (Double at) order) (at .seat) (stake (seatAt t (at .seat))) byDouble
-  unfolding lays decide callTakes
+  unfolding lays wins decide callTakes
   growing =
       let j = at .seat in
       record {
@@ -83,6 +84,7 @@ module _ (t : Table) (at : At) (order : List ℕ) where
         takes = λ staked c. refl;
         decides = λ c h same still-open. ap (λ (x : Played). set (hands (seatAt t j)) (waitingPlaceOf t j) (finished (grown x (nextCard c 0)) byDouble)) same;
         lays-it = simp (eq-eqb j j refl);
+        wins-it = λ o c S hs h same still-open. simp (eq-eqb j j refl) (ap (λ (x : Played). prize o S (finished (grown x (nextCard c 0)) byDouble)) same);
         wager-is = λ h code. omega (arith, wager-double (stake (seatAt t j)) h code);
       }
 

@@ -9,6 +9,7 @@ use borrow.Author.Tests.{ltb-false, eq-eqb, not-false}
 use Rattle.lists.specs.Tests.{allOf}
 use Rattle.rules.specs.SeatHand.{Played, notEnded}
 use Rattle.rules.specs.Permits.{permitsDraw}
+use Rattle.payment.specs.Prize.{prize}
 use Rattle.payment.proofs.Bounds.{wager-single}
 use Rattle.call.specs.declared.At.{At}
 use Rattle.call.specs.declared.Call.the-variants.{Draw}
@@ -16,7 +17,7 @@ use Rattle.call.specs.Refusal.{first}
 use Rattle.history.specs.Aids.MakeEntry.{entry}
 use Rattle.history.specs.Cards.{callTakes}
 use Rattle.history.specs.Hands.{played, nextCard, grown, decide}
-use Rattle.history.specs.Money.{lays}
+use Rattle.history.specs.Money.{lays, wins}
 use Rattle.table.specs.declared.Table.{Table}
 use Rattle.table.specs.Seat.{stake, hands}
 use Rattle.table.specs.Table.{seatAt, cardsLeft}
@@ -43,7 +44,7 @@ draw-accepted t j e =
 
 module _ (t : Table) (at : At) (order : List ℕ) where
   growing : Growing t (entry (Draw at) order) (at .seat) 0 notEnded
-  unfolding lays decide callTakes
+  unfolding lays wins decide callTakes
   growing =
       let j = at .seat in
       record {
@@ -55,6 +56,10 @@ module _ (t : Table) (at : At) (order : List ℕ) where
             ap (λ (x : Played). set (hands (seatAt t j)) (waitingPlaceOf t j) (grown x (nextCard c 0))) same
             ∙ ap (λ (n : ℕ). set (hands (seatAt t j)) (waitingPlaceOf t j) (played (h .cards ++ (nextCard c 0 ∷ [])) (h .origin) n)) still-open;
         lays-it = simp (eq-eqb j j refl);
+        wins-it = λ o c S hs h same still-open.
+            simp (eq-eqb j j refl)
+            (ap (λ (x : Played). prize o S (grown x (nextCard c 0))) same
+            ∙ ap (λ (n : ℕ). prize o S (played (h .cards ++ (nextCard c 0 ∷ [])) (h .origin) n)) still-open);
         wager-is = λ h code. omega (arith, wager-single (stake (seatAt t j)) h (λ b. omega arith));
       }
 

@@ -80,6 +80,8 @@ module _ (t : Table) (e : Entry) (j p code : ℕ) (d : Ends t e j p code) where
       let h = placeOf s p in
       let new = endedBy h code in
       let was = w .seat .playing .each p (w .here) (omega (arith, w .here, w .seat .few, w .seat .shaped .four-places)) in
+      let single = wager-single (stake s) (playedOf new) (d .single) in
+      let was-single = wager-single (stake s) (playedOf h) (λ b. omega (arith, w .not-ended)) in
       record {
         guest = d .guest;
         no-insure = plains .0;
@@ -93,8 +95,8 @@ module _ (t : Table) (e : Entry) (j p code : ℕ) (d : Ends t e j p code) where
         events = end-events w;
         lays-it = lays-none (stake s);
         wins-it = λ c agree. simp (plains .1, plains .2, and-false);
-        wager-grows = omega (arith, wager-single (stake s) (playedOf new) (d .single), wager-single (stake s) (playedOf h) (λ b. omega arith));
-        prize-grows = omega (arith, prize-same (t .options) (stake s) (playedOf new) (playedOf h) refl);
+        wager-grows = omega (arith, single, was-single);
+        prize-grows = omega (arith, prize-same (t .options) (stake s) (playedOf new) (playedOf h) refl (single ∙ sym was-single));
         purse-pays = refl;
         tray-pays = omega arith;
         draws = draws-none t sound;

@@ -1,4 +1,5 @@
--- The marked session over the definitions, and what a broken table answers.
+-- The marked session and the round that takes the whole cover over the definitions, and what a broken table answers.
 pub mod Session
+pub mod FullCover
 pub mod BrokenTable
 pub mod LowestFirst

@@ -8,7 +8,7 @@ use lib.IntN.{ℤ, pos, _+ℤ_, _-ℤ_}
 use lib.ListN.{getD}
 use Rattle.options.specs.declared.Options.{Options}
 use Rattle.payment.specs.declared.bank.Score.{Score}
-use Rattle.rules.specs.SeatHand.{Played}
+use Rattle.rules.specs.SeatHand.{Played, byDouble}
 use Rattle.payment.specs.Bank.{scoreOf}
 use Rattle.rules.specs.Turn.{waitingPlace}
 use Rattle.payment.specs.Pays.{paysOf, netsOf}
@@ -16,7 +16,7 @@ use Rattle.payment.specs.Prize.{prize}
 use Rattle.history.specs.Entry.{Entry, isOf, isFill, isCredit, isBuy, isCash, isStake, isInsure, isDraw, isDouble, isSplit, isClose, isVoid, isEnd, amountOf}
 use Rattle.history.specs.Rounds.{stakeIn, insuranceIn}
 use Rattle.history.specs.Cards.{Cards, cardsOfHistory, bankFinal}
-use Rattle.history.specs.Hands.{missingHand, grown, nextCard, handsIn}
+use Rattle.history.specs.Hands.{missingHand, grown, finished, nextCard, handsIn}
 
 -- Money that came and went with the house's and the cashier's calls, over all seats.
 abbrev pub cameIn : List Entry → ℕ
@@ -49,11 +49,12 @@ abbrev pub laidIn : List Entry → ℕ → ℕ
 laidIn [] i = 0
 laidIn (e ∷ es) i = cond (isEnd e) 0 (lays i (stakeIn es i) e + laidIn es i)
 
--- The prize that a call of the seat makes: of the hand whose turn it is, once it has the card that a draw or a double gives it.
+-- The prize that a call of the seat makes: of the hand whose turn it is, as the draw or the double leaves it (request 2.2: 3 × its W).
 unfoldable pub wins : Options → Cards → ℕ → ℕ → List Played → Entry → ℕ
 wins o c i S hands e =
-    cond (isOf i e && (isDraw e || isDouble e))
-    (prize o S (grown (getD hands (waitingPlace o (getD (c .bank) 0 0) hands) missingHand) (nextCard c 0))) 0
+    let h = grown (getD hands (waitingPlace o (getD (c .bank) 0 0) hands) missingHand) (nextCard c 0) in
+    cond (isOf i e && isDraw e) (prize o S h)
+    (cond (isOf i e && isDouble e) (prize o S (finished h byDouble)) 0)
 
 module _ (o : Options) (opening : List ℕ) where
   -- The prize of a call after these, all prizes of the seat, and those of the round not yet ended.

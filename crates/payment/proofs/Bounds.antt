@@ -15,7 +15,7 @@ use Rattle.cards.specs.PrizeHand.{isPrizeHand}
 use Rattle.options.specs.declared.Options.{Options}
 use Rattle.rules.specs.SeatHand.{Played, byDouble}
 use Rattle.payment.specs.Wager.{wager}
-use Rattle.payment.specs.Prize.{prize}
+use Rattle.payment.specs.Prize.{prize, mostPrize}
 
 -- the wager is the stake or twice the stake
 pub wager-bounds : (S : ℕ) (h : Played) → (S ≤ wager S h) × (wager S h ≤ 2 * S)
@@ -32,18 +32,18 @@ unfolding wager
 wager-double S h doubled = simp (eq-eqb (h .ended) byDouble doubled)
 
 module _ (o : Options) (S : ℕ) where
-  pub prize-most : (h : Played) → prize o S h ≤ 3 * S
+  pub prize-most : (h : Played) → prize o S h ≤ mostPrize S
   unfolding prize
-  prize-most h = cond-most (eqb (o .prize) 1 && isPrizeHand (h .cards)) (omega arith) (omega arith)
+  prize-most h = cond-most (eqb (o .prize) 1 && isPrizeHand (h .cards)) (omega (arith, wager-bounds S h)) (omega arith)
 
   pub prize-none : (h : Played) → isPrizeHand (h .cards) ≡ false → prize o S h ≡ 0
   unfolding prize
   prize-none h none = simp (none, and-false)
 
-  -- a prize is of the cards alone
-  pub prize-same : (h g : Played) → h .cards ≡ g .cards → prize o S h ≡ prize o S g
+  -- a prize is of the cards and the wager alone
+  pub prize-same : (h g : Played) → h .cards ≡ g .cards → wager S h ≡ wager S g → prize o S h ≡ prize o S g
   unfolding prize
-  prize-same h g same = simp same
+  prize-same h g same laid = simp (same, laid)
 
-  pub seat-prizes : (hands : List Played) → length hands ≤ 4 → sumOf (prize o S) hands ≤ 12 * S
-  seat-prizes hands few = omega (arith, mul-le-mul-left (3 * S) few, sum-most (prize o S) (3 * S) prize-most hands)
+  pub seat-prizes : (hands : List Played) → length hands ≤ 4 → sumOf (prize o S) hands ≤ 4 * mostPrize S
+  seat-prizes hands few = omega (arith, mul-le-mul-left (mostPrize S) few, sum-most (prize o S) (mostPrize S) prize-most hands)

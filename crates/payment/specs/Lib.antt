@@ -12,5 +12,7 @@ pub mod Insurance
 pub mod Pays
 -- The cover that the tray must hold.
 pub mod Cover
+-- Request 2.2: the cover is enough and cannot be smaller.
+pub mod CoverFits
 -- The rehearsal hands that are proved together as one table.
 pub mod RehearsalHands

@@ -1,11 +1,12 @@
--- In a dealt round the tray can pay a prize: what it must hold for each seat is more than all prizes of the seat's hands.
+-- In a dealt round the tray can pay a prize: what it must hold for each seat is more, by one prize at least, than all prizes of the seat's hands.
 use mathlib.Core.Path.{_≡_}
 use mathlib.Core.Bool.{true}
-use Prim.Native.Nat.{ℕ, _+_, _*_, _≤_, _<_}
+use Prim.Native.Nat.{ℕ, _+_, _≤_, _<_}
 use native.Mathlib.Omega.{arith}
 use lib.ListN.{length}
 use Rattle.lists.specs.Sum.{sumOf}
 use Rattle.lists.proofs.Sums.{sum-at-most, sum-plus, sum-has}
+use Rattle.payment.specs.Prize.{mostPrize}
 use Rattle.payment.proofs.Bounds.{seat-prizes}
 use Rattle.table.specs.declared.Table.{Table}
 use Rattle.table.specs.Seat.{missingSeat, stake, hands, prizes, seatCover}
@@ -19,18 +20,18 @@ module _ (t : Table) (full : length (t .seats) ≡ 9) (sound : Sound t) where
   few : (i : ℕ) → i < 9 → length (hands (seatAt t i)) ≤ 4
   few i h = few-hands (t .options) (isDealt t) (up t) i (seatAt t i) (sound-options t sound .hands-most) (sound .seats i h)
 
-  room : sumOf (λ s. prizes (t .options) s + 8 * stake s) (t .seats) ≤ allCover t
+  room : sumOf (λ s. prizes (t .options) s + mostPrize (stake s)) (t .seats) ≤ allCover t
   unfolding prizes
   room =
-      sum-at-most (λ s. prizes (t .options) s + 8 * stake s) seatCover (t .seats) missingSeat
+      sum-at-most (λ s. prizes (t .options) s + mostPrize (stake s)) seatCover (t .seats) missingSeat
       (λ i h. omega (arith, seat-prizes (t .options) (stake (seatAt t i)) (hands (seatAt t i)) (few i (omega arith))))
 
-  pub tray-covers : isDealt t ≡ true → (j : ℕ) → j < 9 → 8 * stake (seatAt t j) ≤ t .tray
+  pub tray-covers : isDealt t ≡ true → (j : ℕ) → j < 9 → mostPrize (stake (seatAt t j)) ≤ t .tray
   tray-covers dealt j nine =
       omega (
         arith,
         room,
         sound .cover dealt,
-        sum-plus (prizes (t .options)) (λ s. 8 * stake s) (t .seats),
-        sum-has (λ s. 8 * stake s) (t .seats) j missingSeat (omega arith),
+        sum-plus (prizes (t .options)) (λ s. mostPrize (stake s)) (t .seats),
+        sum-has (λ s. mostPrize (stake s)) (t .seats) j missingSeat (omega arith),
       )

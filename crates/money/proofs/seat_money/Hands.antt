@@ -16,6 +16,7 @@ use Rattle.rules.specs.declared.seat_hand.SeatHands.{SeatHands}
 use Rattle.rules.specs.SeatHand.{Played, playedOf, handsOf}
 use Rattle.rules.proofs.seat_hand.Places.{none, many-hands, hand-at}
 use Rattle.payment.specs.Wager.{wager}
+use Rattle.payment.specs.Prize.{mostPrize}
 use Rattle.payment.proofs.Bounds.{wager-bounds, seat-prizes}
 use Rattle.table.specs.declared.Seat.{Seat}
 use Rattle.table.specs.Seat.{stake, insurance, hands, laid, prizes}
@@ -47,6 +48,6 @@ module _ (s : Seat) (full : length (s .hands .places) ≡ 4) where
       cond-most (eqb (length (hands s)) 0) (omega arith)
       (omega (arith, hands-most (wager (stake s)) (s .hands) full (2 * stake s) (λ h. wager-bounds (stake s) h .1)))
 
-  pub prizes-most : (o : Options) → prizes o s ≤ 12 * stake s
+  pub prizes-most : (o : Options) → prizes o s ≤ 4 * mostPrize (stake s)
   unfolding prizes
   prizes-most o = seat-prizes o (stake s) (hands s) (omega (arith, many-hands (s .hands) full))

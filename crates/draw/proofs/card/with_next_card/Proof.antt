@@ -1,10 +1,11 @@
 -- The effect from what was read; an accepted draw or double has the money, and the tray the prize.
 use mathlib.Core.Path.{_≡_, sym, ap}
-use Prim.Native.Nat.{_*_, _≤_}
+use Prim.Native.Nat.{_≤_}
 use native.Mathlib.Omega.{arith}
 use borrow.Author.Needs.{needs}
 use lib.ListN.{length, length-map}
 use Rattle.rules.specs.SeatHand.{playedOf}
+use Rattle.payment.specs.Prize.{mostPrize}
 use Rattle.payment.proofs.Bounds.{prize-most}
 use Rattle.table.specs.Seat.{purse, stake}
 use Rattle.table.specs.Table.{seatAt}
@@ -13,8 +14,7 @@ use Rattle.draw.proofs.card.Laws.{next-is}
 use Rattle.draw.proofs.card.with_next_card.Statement.{statement}
 use Rattle.draw.proofs.card.with_next_card.Tie as tie
 
--- the prize is at most three stakes of the seat
-most : (c : tie.After-prize) → c .prize .result ≤ 3 * stake (seatAt (c .before .before .before .before .before .before .before .before .before .before .before .args .t) (c .before .before .before .before .before .before .before .before .before .before .before .args .at .seat))
+most : (c : tie.After-prize) → c .prize .result ≤ mostPrize (stake (seatAt (c .before .before .before .before .before .before .before .before .before .before .before .args .t) (c .before .before .before .before .before .before .before .before .before .before .before .args .at .seat)))
 most c =
     let read = c .before .before .before .before .before in
     let start = read .before .before .before .before .before .before in

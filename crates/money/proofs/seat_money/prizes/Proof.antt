@@ -1,4 +1,4 @@
--- `prizes` adds hand by hand: before each turn the sum is that of the first i hands, and each prize is at most three times a stake of 32 bits.
+-- `prizes` adds hand by hand: before each turn the sum is that of the first i hands, and each prize is at most that of a stake of 32 bits.
 use mathlib.Core.Path.{_≡_, _∙_}
 use Prim.Native.Nat.{_-_, _*_, _≤_}
 use native.Mathlib.Omega.{arith}
@@ -7,7 +7,7 @@ use lib.ListN.{length, take, getD, length-map}
 use Rattle.lists.specs.Sum.{sumOf}
 use Rattle.rules.specs.SeatHand.{playedOf, handsOf}
 use Rattle.rules.proofs.seat_hand.Places.{none}
-use Rattle.payment.specs.Prize.{prize}
+use Rattle.payment.specs.Prize.{prize, mostPrize}
 use Rattle.payment.proofs.Bounds.{prize-most}
 use Rattle.table.specs.Seat.{prizes}
 use Rattle.money.proofs.seat_money.Hands.{next-hand, every-hand}
@@ -15,7 +15,7 @@ use Rattle.money.proofs.seat_money.prizes.Statement.{statement}
 use Rattle.money.proofs.seat_money.prizes.Tie as tie
 
 abbrev Inv-loop : tie.InvT-loop
-Inv-loop o stake hands n won₀ i₀ won i = (i ≤ n) × (won ≡ sumOf (prize o stake) (take i (handsOf hands))) × (won ≤ 12884901888 * i)
+Inv-loop o stake hands n won₀ i₀ won i = (i ≤ n) × (won ≡ sumOf (prize o stake) (take i (handsOf hands))) × (won ≤ mostPrize 4294967296 * i)
 
 abbrev μ-loop : tie.MeasureT-loop
 μ-loop o stake hands n won₀ i₀ won i = n - i

@@ -1,0 +1,36 @@
+-- The cover is enough by the bounds of each hand's gain and prize; what the four hands take of it is worked out from the definitions.
+use mathlib.Core.Path.{_≡_, refl}
+use Prim.Native.Nat.{ℕ, _+_, _*_}
+use native.Mathlib.Omega.{arith}
+use Rattle.lists.specs.Sum.{sumOf}
+use Rattle.lists.specs.Tests.{anyOf, allOf}
+use Rattle.cards.specs.Points.{pointsOf}
+use Rattle.cards.specs.Total.{total}
+use Rattle.cards.specs.PrizeHand.{allSevens, isPrizeHand}
+use Rattle.options.specs.declared.Options.{Options}
+use Rattle.rules.specs.SeatHand.{natural}
+use Rattle.payment.specs.Wager.{wager}
+use Rattle.payment.specs.Prize.{prize, mostPrize}
+use Rattle.payment.specs.HandPay.{handBack, againstBank, handPay}
+use Rattle.payment.specs.Insurance.{insurancePay}
+use Rattle.payment.specs.CoverFits.{CoverFits, doubled, sevens, bust}
+use Rattle.payment.proofs.Pays.{laid-of, back-of}
+use Rattle.payment.proofs.cover.Bounds.{seat-cover}
+
+module _ (o : Options) (S : ℕ) where
+  -- each of the four lays twice the stake, wins as much and has the most that a prize can be
+  back : handPay o bust S doubled .back ≡ 2 * S + 2 * S
+  unfolding handBack againstBank natural wager total sumOf anyOf pointsOf
+  back = refl
+
+  won : o .prize ≡ 1 → prize o S doubled ≡ mostPrize S
+  unfolding prize isPrizeHand allSevens allOf wager
+  won on = simp on (omega arith)
+
+pub cover-fits : CoverFits
+unfolding sumOf wager insurancePay
+cover-fits =
+    record {
+      enough = λ o bank S I hands few insured. omega (arith, laid-of o bank S I hands, back-of o bank S I hands, seat-cover o bank S hands I few insured);
+      taken = λ o S on. omega (arith, laid-of o bust S 0 sevens, back-of o bust S 0 sevens, back o S, won o S on);
+    }
