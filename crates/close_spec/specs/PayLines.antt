@@ -1,5 +1,5 @@
 -- Document 01, "Payment": one pay line (seat, place, hand or insurance, net; place 0 where it is no hand) for each hand and insurance.
--- Their order is left to the program, and this is its choice: by seat; in a seat the insurance first, then the hands by place.
+-- Request 2.3: they stand by seat; in a seat the insurance first, then the hands by place.
 use mathlib.Core.List.{List, [], _∷_, _++_, map}
 use Prim.Native.Nat.{ℕ, suc}
 use Rattle.call.specs.PayLine.{PayLine, line}

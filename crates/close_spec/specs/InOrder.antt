@@ -1,0 +1,29 @@
+-- Request 2.3: pay lines from the left. Lines of close stand by seat; in a seat the insurance comes first, then its hands by place. With each line exactly once
+-- (EachOnce.antt) the answer of close is thereby wholly fixed.
+use mathlib.Core.Path.{_≡_}
+use mathlib.Core.Bool.{Bool, true, _&&_, _||_}
+use mathlib.Core.List.{List, [], _∷_}
+use lib.Dec.{ltb, eqb}
+use Rattle.lists.specs.Tests.{allOf}
+use Rattle.call.specs.PayLine.{PayLine}
+use Rattle.options.specs.declared.Options.{Options}
+use Rattle.payment.specs.declared.bank.Score.{Score}
+use Rattle.payment.specs.Pays.{handKind, insuranceKind}
+use Rattle.table.specs.declared.Seat.{Seat}
+use Rattle.close_spec.specs.PayLines.{allLines}
+
+-- In a seat a line stands before another: an insurance before a hand, a hand before one in a later place.
+abbrev pub beforeInSeat : PayLine → PayLine → Bool
+beforeInSeat l m = eqb (m .kind) handKind && (eqb (l .kind) insuranceKind || eqb (l .kind) handKind && ltb (l .place) (m .place))
+
+-- A line stands before another: by seat, then in the seat.
+abbrev pub standsBefore : PayLine → PayLine → Bool
+standsBefore l m = ltb (l .seat) (m .seat) || eqb (l .seat) (m .seat) && beforeInSeat l m
+
+-- Each line stands before all that follow it.
+unfoldable pub inOrder : List PayLine → Bool
+inOrder [] = true
+inOrder (l ∷ ls) = allOf (standsBefore l) ls && inOrder ls
+
+abbrev pub InOrder : Options → Score → List Seat → Type 0
+InOrder o bank seats = inOrder (allLines o bank 0 seats) ≡ true
