@@ -29,7 +29,7 @@ fn could_be_played(h: Hand) -> bool
     ensures { λ r. ⌜ r ≡ couldBePlayed (cardsOf h) ⌝ }
 {
     let n = cards::hand::held(h);
-    n < 12 || (n as u32) < cards::total::low_sum(h)
+    n < 12 || (n as u8) < cards::total::low_sum(h)
 }
 
 // A seat's only hand was dealt, any other comes from a split, of aces where its first card is one. It asks that there is a first card.

@@ -15,7 +15,7 @@ pub struct HandScore {
 pub fn hand_score(h: Hand) -> HandScore
     ensures { λ r. ⌜ r ≡ handScore (cardsOf h) ⌝ }
 {
-    let low = low_sum(h);
+    let low = low_sum(h) as u32;
     let all = total(h);
     HandScore {
         total: all as u8,

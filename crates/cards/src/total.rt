@@ -5,15 +5,15 @@ ghost use Rattle.cards.specs.Total.{lowSum, hasAce, total as totalOf, is
 use crate::hand::Hand;
 use crate::hand::held;
 
-// The low sum: all points, aces as 1.
-pub fn low_sum(h: Hand) -> u32
+// The low sum: all points, aces as 1. It is run up in a byte (request 2.4): a hand is read as twenty cards at most, and those come to 200 at most.
+pub fn low_sum(h: Hand) -> u8
     ensures { λ r. ⌜ r ≡ lowSum (cardsOf h) ⌝ }
 {
     let n = held(h);
-    let mut sum: u32 = 0;
+    let mut sum: u8 = 0;
     for i in 0usize..n {
         let card = h.cards[i];
-        sum += crate::card::points(card) as u32;
+        sum += crate::card::points(card);
     }
     sum
 }
@@ -36,7 +36,7 @@ pub(crate) fn has_ace(h: Hand) -> bool
 pub fn total(h: Hand) -> u32
     ensures { λ r. ⌜ r ≡ totalOf (cardsOf h) ⌝ }
 {
-    let low = low_sum(h);
+    let low = low_sum(h) as u32;
     if low <= 11 {
         if has_ace(h) {
             return low + 10;

@@ -16,6 +16,9 @@ few h full = simp length-take (omega arith)
 low-sum-requires : tie.Need-low-sum-requires
 low-sum-requires c κs = search needs
 
+cast-low : tie.Need-cast-low
+cast-low c = search needs
+
 total-requires : tie.Need-total-requires
 total-requires c κs = search needs
 
@@ -35,4 +38,4 @@ returns : tie.Need-returns
 returns c = rw (c .total .ensures, c .before .low-sum .ensures)
 
 pub hand-score-spec : {M : Type 1} → statement M
-hand-score-spec = tie.close (tie.spec low-sum-requires total-requires cast-t4 add-t5 returns)
+hand-score-spec = tie.close (tie.spec low-sum-requires cast-low total-requires cast-t4 add-t5 returns)

@@ -33,11 +33,10 @@ element-copy-out-card c = search needs
 points-requires : tie.Need-points-requires Inv-loop μ-loop
 points-requires c κs = search needs
 
-cast-sum : tie.Need-cast-sum Inv-loop μ-loop
-cast-sum c = search needs
-
 add-sum : tie.Need-add-sum Inv-loop μ-loop
-add-sum c = search needs
+add-sum c =
+    let cards = c .before .before .before .before .before .args .t1 .cards in
+    record { fits = omega (arith, points-most (getD cards (c .before .before .before .loop .i) 0)) }
 
 add-i : tie.Need-add-i Inv-loop μ-loop
 add-i c = search needs
@@ -69,7 +68,6 @@ low-sum-spec =
     loop-holds
     element-copy-out-card
     points-requires
-    cast-sum
     add-sum
     add-i
     loop-less

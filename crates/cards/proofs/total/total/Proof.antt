@@ -14,6 +14,9 @@ use Rattle.cards.proofs.total.total.Tie as tie
 low-sum-requires : tie.Need-low-sum-requires
 low-sum-requires c κs = search needs
 
+cast-low : tie.Need-cast-low
+cast-low c = search needs
+
 has-ace-requires : tie.Need-has-ace-requires
 has-ace-requires c κs = search needs
 
@@ -44,4 +47,4 @@ returns-3 c =
 
 pub total-spec : {M : Type 1} → statement M
 total-spec =
-    tie.close (tie.spec low-sum-requires has-ace-requires add-result returns returns-2 returns-3)
+    tie.close (tie.spec low-sum-requires cast-low has-ace-requires add-result returns returns-2 returns-3)
