@@ -2,12 +2,12 @@
 -- one of these parts says that the part fails, and the rule with it.
 use mathlib.Core.Path.{_≡_, refl, sym, _∙_, ap}
 use mathlib.Core.Bool.{Bool, true, false, not, _||_, and-false, true≢false}
-use mathlib.Core.List.{List, [], _∷_, append-nil}
-use Prim.Native.Nat.{ℕ, _<_}
+use mathlib.Core.List.{List, [], _∷_, _++_, append-nil}
+use Prim.Native.Nat.{ℕ, _≤_, _<_}
 use native.Mathlib.Omega.{arith}
 use lib.Dec.{leb}
 use lib.ListN.{length}
-use borrow.Author.Tests.{ltb-true, lt-ltb, le-ltb, leb-true, leb-false, not-false}
+use borrow.Author.Tests.{ltb-true, lt-ltb, leb-true, leb-false, not-false}
 use Rattle.lists.specs.Tests.{anyOf, allOf}
 use Rattle.lists.proofs.Tests.{first-inside, first-passes, any-not-at}
 use Rattle.cards.specs.Card.{isAce}
@@ -76,15 +76,29 @@ module _ (t : Table) (shaped : Shaped t) (j : ℕ) where
       let waiting = rw only at (hand-waits (a .acting .nine) (a .waits)) in
       simp (waiting, a .early, no-ace)
 
-  -- a refused one: the number is that of a part that fails
-  split-barred : first (splitConditions t j) ≡ 13 → mayTake permitsSplit t j ≡ false
-  unfolding splitConditions turnConditions seatConditions permitsSplit anyOf
-  split-barred e = go (isPair (cardsOf (waitingHandOf t j .hand))) (leb (t .options .hands) (length (hands (seatAt t j)))) refl refl (first-holds (splitConditions t j) 13 (λ z. omega arith) e)
+  -- a refused one: the number is that of a part that fails, and none before it does
+  split-no-pair : first (splitConditions t j) ≡ 19 → isPair (cardsOf (waitingHandOf t j .hand)) ≡ false
+  unfolding splitConditions turnConditions seatConditions anyOf
+  split-no-pair e = go (isPair (cardsOf (waitingHandOf t j .hand))) (first-holds (splitConditions t j) 19 (λ z. omega arith) e)
     where
-      go : (pair full : Bool) → isPair (cardsOf (waitingHandOf t j .hand)) ≡ pair → leb (t .options .hands) (length (hands (seatAt t j))) ≡ full → not pair || (full || false) ≡ true → mayTake permitsSplit t j ≡ false
-      go false full p f some = simp (p, and-false)
-      go true true p f some = simp (le-ltb _ _ (leb-true (t .options .hands) (length (hands (seatAt t j))) f), and-false)
-      go true false p f some = absurd (true≢false (sym some))
+      go : (pair : Bool) → not pair || false ≡ true → pair ≡ false
+      go true some = absurd (true≢false (sym some))
+      go false some = refl
+
+  split-full : first (splitConditions t j) ≡ 20 → (isPair (cardsOf (waitingHandOf t j .hand)) ≡ true) × (t .options .hands ≤ length (hands (seatAt t j)))
+  unfolding splitConditions turnConditions seatConditions anyOf allOf
+  split-full e =
+      let asked-first : List Condition = turnConditions t j ++ (19, not (isPair (cardsOf (waitingHandOf t j .hand)))) ∷ [] in
+      let (_, (_, (_, (_, (_, (pair, _)))))) = none-hold asked-first refl (first-past asked-first _ 20 refl e) in
+      (not-false (isPair (cardsOf (waitingHandOf t j .hand))) pair, go (leb (t .options .hands) (length (hands (seatAt t j)))) refl (first-holds (splitConditions t j) 20 (λ z. omega arith) e))
+    where
+      go : (full : Bool) → leb (t .options .hands) (length (hands (seatAt t j))) ≡ full → full || false ≡ true → t .options .hands ≤ length (hands (seatAt t j))
+      go true f some = leb-true (t .options .hands) (length (hands (seatAt t j))) f
+      go false f some = absurd (true≢false (sym some))
+
+  split-not-13 : first (splitConditions t j) ≡ 13 → ⊥
+  unfolding splitConditions turnConditions seatConditions anyOf
+  split-not-13 e = true≢false (sym (first-holds (splitConditions t j) 13 (λ z. omega arith) e))
 
   -- a staked seat none of whose hands waits has a hand in place 0, which does not wait
   idle : Acting t j → seatWaits (t .options) (up t) (hands (seatAt t j)) ≡ false → waits (t .options) (up t) (length (hands (seatAt t j))) (playedOf (placeOf (seatAt t j) 0)) ≡ false
@@ -127,7 +141,9 @@ module _ (t : Table) (shaped : Shaped t) (j : ℕ) where
         stand = stand-permitted;
         split = split-permitted;
         surrender = surrender-permitted;
-        split-barred = split-barred;
+        split-no-pair = split-no-pair;
+        split-full = split-full;
+        split-not-13 = split-not-13;
         surrender-late = surrender-late;
         surrender-barred = surrender-barred;
       }

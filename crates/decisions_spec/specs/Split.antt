@@ -19,12 +19,12 @@ use Rattle.table.specs.Table.{makeTable, seatAt, cardsLeft}
 use Rattle.decisions_spec.specs.Turn.{turnConditions, waitingPlaceOf, waitingHandOf}
 use Rattle.decisions_spec.specs.Card.{cardAhead}
 
--- 13 has two causes: no pair, or the seat's hands are used up.
+-- 19 no pair: different ranks, or not exactly two cards; 20 the seat has all its hands (request 2.5, both in the place of 13).
 unfoldable pub splitConditions : Table → ℕ → List Condition
 splitConditions t j =
     turnConditions t j
-    ++ (13, not (isPair (cardsOf (waitingHandOf t j .hand))))
-    ∷ (13, leb (t .options .hands) (length (hands (seatAt t j))))
+    ++ (19, not (isPair (cardsOf (waitingHandOf t j .hand))))
+    ∷ (20, leb (t .options .hands) (length (hands (seatAt t j))))
     ∷ (15, ltb (purse (seatAt t j)) (stake (seatAt t j)))
     ∷ (18, ltb (cardsLeft t) 2)
     ∷ []

@@ -130,7 +130,7 @@ fn split_table(t: Table, at: At) -> Table
     after
 }
 
-// Behind the conditions in turn: 13 no pair, 13 the seat's hands are used up, 15 the purse is below the stake, 18 fewer than two cards are left.
+// Behind the conditions in turn: 19 no pair, 20 the seat's hands are used up, 15 the purse is below the stake, 18 fewer than two cards are left.
 fn split_number(t: Table, at: At) -> u8
     requires { ⌜ broken t ≡ false ⌝ }
     ensures { λ r. ⌜ r ≡ firstOf (splitConditions t (at .seat)) ⌝ }
@@ -148,10 +148,10 @@ fn split_number(t: Table, at: At) -> u8
     let most = o.hands as usize;
     let stake = money.stake as u64;
     asked(
-        13,
+        19,
         !is_pair(pair),
         asked(
-            13,
+            20,
             most <= used(hands),
             asked(15, money.purse < stake, asked(18, cards_left(t) < 2, 0)),
         ),
