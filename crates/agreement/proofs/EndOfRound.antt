@@ -6,7 +6,7 @@ use mathlib.Core.List.{List, [], _∷_, map}
 use Prim.Native.Nat.{ℕ, _+_, _*_}
 use native.Mathlib.Omega.{arith}
 use lib.IntN.{pos}
-use lib.ListN.{take, getD}
+use lib.ListN.{length, take, getD, getD-replicate}
 use Rattle.lists.specs.Tests.{anyOf}
 use Rattle.lists.proofs.Places.{view-map}
 use Rattle.lists.proofs.Differences.{Diff}
@@ -15,7 +15,7 @@ use Rattle.rules.specs.Drew.{seatDrew}
 use Rattle.table.specs.declared.Seat.{Seat}
 use Rattle.table.specs.declared.Shoe.{Shoe}
 use Rattle.table.specs.declared.Table.{Table}
-use Rattle.table.specs.Seat.{missingSeat, purse, stake, insurance, hands, laid, prizes}
+use Rattle.table.specs.Seat.{missingSeat, purse, stake, insurance, sides, hands, laid, prizes}
 use Rattle.table.specs.Shoe.{isFresh}
 use Rattle.table.specs.Table.{seatAt}
 use Rattle.table.proofs.RoundEnd.{RoundEnd, cleared, roundEnded, cleared-laid, cleared-prizes, end-shaped, end-sound, end-money}
@@ -49,7 +49,9 @@ module _ (o : Options) (opening : List ℕ) (es : List Entry) (i : ℕ) (e : Ent
       record {
         stake-is = simp (h .is-end);
         insurance-is = simp (h .is-end);
+        sides-are = λ k l. getD-replicate {A = ℕ} 4 k 0 0 l ∙ sym (simp (h .is-end));
         hands-are = simp (not-deal e (h .among) refl, h .is-end);
+        first-is = λ some. absurd (omega arith);
         laid-is = cleared-laid purse-of s ∙ simp (h .is-end);
         prizes-are = cleared-prizes o purse-of s ∙ simp (h .is-end);
         purse-is = p;
@@ -63,7 +65,9 @@ listed o opening es purse-of seats i none a =
     record {
       stake-is = view-map stake (cleared purse-of) seats i missingSeat refl ∙ a .stake-is;
       insurance-is = view-map insurance (cleared purse-of) seats i missingSeat refl ∙ a .insurance-is;
+      sides-are = λ k h. view-map (λ s. getD (sides s) k 0) (cleared purse-of) seats i missingSeat (getD-replicate {A = ℕ} 4 k 0 0 h) ∙ a .sides-are k h;
       hands-are = view-map hands (cleared purse-of) seats i missingSeat refl ∙ a .hands-are;
+      first-is = λ some. absurd (omega (arith, ap length (view-map hands (cleared purse-of) seats i missingSeat refl)));
       laid-is = view-map laid (cleared purse-of) seats i missingSeat refl ∙ a .laid-is;
       prizes-are = view-map (prizes o) (cleared purse-of) seats i missingSeat refl ∙ a .prizes-are;
       purse-is = ap pos (view-map purse (cleared purse-of) seats i missingSeat none) ∙ a .purse-is;
@@ -105,7 +109,7 @@ module _ (opening : List ℕ) (es : List Entry) (t : Table) (e : Entry) (tray : 
               dealt = sym (simp (q .is-end));
               seats = λ i.
                   listed (t .options) opening (e ∷ es) purse-of (t .seats) i
-                  (end .nothing-stays missingSeat (record { no-purse = refl; no-stake = refl; no-insurance = refl; no-hands = refl }))
+                  (end .nothing-stays missingSeat (record { no-purse = refl; no-stake = refl; no-insurance = refl; no-sides = λ k h. refl; no-hands = refl }))
                   (end-seat (t .options) opening es i e q purse-of (seatAt t i) (call .purses i));
               drew = undecided .0 ∙ sym (simp (q .is-end));
               decided = undecided .1 ∙ sym (simp (q .is-end));

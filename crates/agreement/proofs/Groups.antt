@@ -1,14 +1,16 @@
 -- The calls in groups, by their kinds. A call of one group is of no kind of another: so what a call is not follows from its group. Only `group` lists
 -- the kinds.
 use mathlib.Core.Path.{_≡_, sym, _∙_, ap}
-use mathlib.Core.Bool.{false, cond, _&&_, _||_, true≢false}
-use Prim.Native.Nat.{ℕ}
+use mathlib.Core.Bool.{true, false, cond, _&&_, _||_, true≢false, and-false}
+use Prim.Native.Nat.{ℕ, _+_, _≤_, _<_}
+use native.Mathlib.Decide.{decLe}
+use native.Mathlib.Omega.{arith}
 use lib.Dec.{eqb, leb}
-use borrow.Author.Tests.{eq-eqb, ne-eqb}
+use borrow.Author.Tests.{eq-eqb, ne-eqb, eqb-false, le-leb, lt-leb}
 use Rattle.call.specs.Call.{kind}
-use Rattle.history.specs.Entry.{Entry, isKind, isFill, isCredit, isBuy, isCash, isStake, isDeal, isInsure, isStand, isDraw, isDouble, isSplit, isSurrender, isEven, isFive, isClose, isVoid, isLoad, isDecision, isEnd}
+use Rattle.history.specs.Entry.{Entry, isKind, isFill, isCredit, isBuy, isCash, isStake, isDeal, isInsure, isStand, isDraw, isDouble, isSplit, isSurrender, isEven, isFive, isClose, isVoid, isLoad, isSideOf, isSide, isDecision, isEnd}
 
--- fill, credit and load; buy, cash and stake; deal; insure and the decisions; close and void
+-- fill, credit and load; buy, cash, stake and side stakes; deal; insure and the decisions; close and void
 abbrev pub ofHouse : ℕ
 ofHouse = 0
 
@@ -30,7 +32,7 @@ ofNone = 5
 abbrev pub group : ℕ → ℕ
 group k =
     cond (eqb k 1 || eqb k 2 || eqb k 17) ofHouse
-    (cond (eqb k 3 || eqb k 4 || eqb k 5) ofPurse
+    (cond (eqb k 3 || eqb k 4 || eqb k 5 || leb 18 k && leb k 21) ofPurse
     (cond (eqb k 6) ofDeal
     (cond (leb 7 k && leb k 14) ofGuest
     (cond (eqb k 15 || eqb k 16) ofEnd
@@ -43,6 +45,13 @@ InGroup e g = group (kind (e .call)) ≡ g
 not-kind : (e : Entry) (g k : ℕ) → InGroup e g → eqb (group k) g ≡ false → isKind k e ≡ false
 not-kind e g k among other =
     ne-eqb (kind (e .call)) k (λ same. absurd (true≢false (sym (eq-eqb (group k) g (ap group (sym same) ∙ among)) ∙ other)))
+
+-- a call that is no side stake is one of no kind
+pub not-side-of : (e : Entry) → isSide e ≡ false → (k : ℕ) → k < 4 → isSideOf (k + 1) e ≡ false
+not-side-of e none k h =
+    ne-eqb (kind (e .call)) (17 + (k + 1)) (λ same.
+    let it : isSide e ≡ true = simp (le-leb 18 (kind (e .call)) (omega arith), le-leb (kind (e .call)) 21 (omega arith)) in
+    absurd (true≢false (sym it ∙ none)))
 
 -- what a call of the group g is not
 module _ (e : Entry) {g : ℕ} (among : InGroup e g) where
@@ -65,6 +74,17 @@ module _ (e : Entry) {g : ℕ} (among : InGroup e g) where
 
     pub not-stake : isStake e ≡ false
     not-stake = not-kind e g _ among other
+
+    pub not-side : isSide e ≡ false
+    not-side = go (decLe 18 (kind (e .call)))
+      where
+        -- it is none of the four kinds
+        not-of : (k : ℕ) → eqb (group k) g ≡ false → kind (e .call) ≡ k → ⊥
+        not-of k other = eqb-false (kind (e .call)) k (not-kind e g k among other)
+
+        go : Dec (18 ≤ kind (e .call)) → isSide e ≡ false
+        go (yes h) = simp (lt-leb (kind (e .call)) 21 (omega (arith, not-of 18 other, not-of 19 other, not-of 20 other, not-of 21 other)), and-false)
+        go (no h) = simp (lt-leb 18 (kind (e .call)) (omega arith))
 
   pub not-deal : eqb ofDeal g ≡ false → isDeal e ≡ false
   not-deal other = not-kind e g _ among other

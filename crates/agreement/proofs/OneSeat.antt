@@ -19,7 +19,7 @@ use Rattle.table.proofs.SeatChange.{SeatChange, change-shaped, change-sound}
 use Rattle.history.specs.Entry.{Entry, isOf, isDeal, isDrawing, isDecision, isEnd, isLoad, isFill, isCredit, isBuy, isCash, amountOf}
 use Rattle.history.specs.Rounds.{stakedBelow}
 use Rattle.history.specs.Cards.{Cards, makeCards, callTakes, bankAfter, cardsAfter, cardsOfHistory}
-use Rattle.history.specs.Hands.{handsIn}
+use Rattle.history.specs.Hands.{handsIn, firstIn}
 use Rattle.agreement.specs.Aids.Agrees.{SeatAgrees, CardsAgree, Agrees, Good}
 use Rattle.agreement.proofs.Quiet.{other-seat}
 use Rattle.agreement.proofs.Events.{Events, seat-events}
@@ -38,6 +38,7 @@ module _ (opening : List ℕ) (es : List Entry) (t : Table) (e : Entry) (j tray 
     pub more-drawn : shoe .drawn ≡ t .shoe .drawn + k
     pub same-fresh : isFresh shoe ≡ isFresh (t .shoe)
     pub others : (i : ℕ) → (i ≡ j → ⊥) → handsIn (t .options) opening (e ∷ es) i ≡ handsIn (t .options) opening es i
+    pub first-others : (i : ℕ) → (i ≡ j → ⊥) → firstIn (t .options) opening (e ∷ es) i ≡ firstIn (t .options) opening es i
     pub events : Events e (hands (seatAt t j)) (hands s)
     pub seat : SeatAgrees (t .options) opening (e ∷ es) j s
     pub money : allMoney after + cond (isCredit e || isCash e) (amountOf e) 0 ≡ allMoney t + cond (isFill e || isBuy e) (amountOf e) 0
@@ -75,7 +76,7 @@ module _ (opening : List ℕ) (es : List Entry) (t : Table) (e : Entry) (j tray 
           (rw (getD-set-same (t .seats) j s missingSeat (omega arith)) (call .seat))
       each i (no other) =
           rw (getD-set-other (t .seats) j i s missingSeat other)
-          (other-seat (t .options) opening es i e (call .not-end) (call .of-other i other) (call .others i other) (seatAt t i) (a .seats i))
+          (other-seat (t .options) opening es i e (call .not-end) (call .of-other i other) (call .others i other) (call .first-others i other) (seatAt t i) (a .seats i))
 
   -- such a call keeps the table good
   pub one-call : (came went : ℕ) → Good opening es t → SeatChange t j tray s shoe k came went → SeatCall → Good opening (e ∷ es) after

@@ -2,7 +2,7 @@
 use mathlib.Core.Path.{_≡_, refl, sym, _∙_, ap, ap₂}
 use mathlib.Core.Bool.{false, not}
 use mathlib.Core.List.{List, [], _∷_, _++_, map}
-use Prim.Native.Nat.{ℕ, _+_, _≤_}
+use Prim.Native.Nat.{ℕ, _+_, _-_, _≤_}
 use native.Mathlib.Decide.{decLe}
 use native.Mathlib.Omega.{arith}
 use lib.ListN.{length, take-append-drop, List·getD-eq-default}
@@ -19,11 +19,14 @@ use Rattle.table.specs.Money.{allMoney}
 use Rattle.table.specs.Broken.{sound}
 use Rattle.table.proofs.Facts.{facts-sound, no-hands, cards-left}
 use Rattle.history.specs.Entry.{Entry}
-use Rattle.history.specs.Rounds.{isDealtRound}
+use Rattle.history.specs.Rounds.{isDealtRound, sideIn}
 use Rattle.history.specs.Money.{cameIn, wentOut}
 use Rattle.agreement.specs.Aids.Agrees.{Good}
 use Rattle.cashier_spec.proofs.BetweenRounds.{no-hand}
 use Rattle.books.specs.Books.{Claim}
+
+back : (k : ℕ) → 1 ≤ k → k - 1 + 1 ≡ k
+back k h = omega arith
 
 empty-list : (xs : List ℕ) → length xs ≡ 0 → xs ≡ []
 empty-list [] e = refl
@@ -54,6 +57,8 @@ module _ (opening : List ℕ) (es : List Entry) (t : Table) (g : Good opening es
         layout-is = λ i. a .seats i .laid-is;
         stake-is = λ i. a .seats i .stake-is;
         insurance-is = λ i. a .seats i .insurance-is;
+        sides-are = λ i k least most. a .seats i .sides-are (k - 1) (omega arith) ∙ ap (sideIn es i) (back k least);
+        first-is = λ i. a .seats i .first-is;
         hands-are = λ i. a .seats i .hands-are;
         wagers-are = λ i. ap₂ (λ (S : ℕ) (hs : List Played). map (wager S) hs) (a .seats i .stake-is) (a .seats i .hands-are);
         bank-is = c .bank;

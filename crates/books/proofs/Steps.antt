@@ -1,9 +1,9 @@
--- Every accepted call keeps a table good, and any sound table sound, a line for each of the seventeen; no call changes the options.
+-- Every accepted call keeps a table good, and any sound table sound, a line for each of them; no call changes the options.
 use mathlib.Core.Path.{_≡_, refl}
 use mathlib.Core.List.{List, _∷_}
 use Prim.Native.Nat.{ℕ}
 use Rattle.call.specs.declared.Call.{Call}
-use Rattle.call.specs.declared.Call.the-variants.{Fill, Credit, Buy, Cash, Stake, Deal, Insure, Stand, Draw, Double, Split, Surrender, Even, Five, Close, Void, Load}
+use Rattle.call.specs.declared.Call.the-variants.{Fill, Credit, Buy, Cash, Stake, Side, Deal, Insure, Stand, Draw, Double, Split, Surrender, Even, Five, Close, Void, Load}
 use Rattle.call.specs.Refusal.{first}
 use Rattle.table.specs.declared.Table.{Table}
 use Rattle.table.specs.Shape.{Shaped}
@@ -17,12 +17,14 @@ use Rattle.cashier_spec.specs.Buy.{buyEffect}
 use Rattle.cashier_spec.specs.Cash.{cashEffect}
 use Rattle.cashier_spec.specs.Load.{loadEffect}
 use Rattle.cashier_spec.specs.Stake.{stakeEffect}
+use Rattle.cashier_spec.specs.Side.{sideEffect}
 use Rattle.cashier_spec.proofs.Fill.{fill-kept, fill-good}
 use Rattle.cashier_spec.proofs.Credit.{credit-kept, credit-good}
 use Rattle.cashier_spec.proofs.Buy.{buy-kept, buy-good}
 use Rattle.cashier_spec.proofs.Cash.{cash-kept, cash-good}
 use Rattle.cashier_spec.proofs.Load.{load-kept, load-good}
 use Rattle.cashier_spec.proofs.Stake.{stake-kept, stake-good}
+use Rattle.cashier_spec.proofs.Side.{side-kept, side-good}
 use Rattle.deal_spec.specs.Deal.{dealEffect}
 use Rattle.close_spec.specs.Void.{voidEffect}
 use Rattle.deal_spec.proofs.Deal.{deal-kept, deal-good}
@@ -52,6 +54,7 @@ step-good opening es t (Credit n) order g e = credit-good opening es t n order g
 step-good opening es t (Buy at n) order g e = buy-good opening es t at n order g e
 step-good opening es t (Cash at n) order g e = cash-good opening es t at n order g e
 step-good opening es t (Stake at n) order g e = stake-good opening es t at n order g e
+step-good opening es t (Side at k n) order g e = side-good opening es t at k n order g e
 step-good opening es t Deal order g e = deal-good opening es t order g e
 step-good opening es t (Insure at n) order g e = decision-good t _ _ (insure-decides t at n order (g .shaped) (g .sound) e) opening es g
 step-good opening es t (Stand at) order g e = decision-good t _ _ (stand-decides t at order (g .shaped) (g .sound) e) opening es g
@@ -72,6 +75,7 @@ step-kept t (Credit n) order shaped sound e = credit-kept t n shaped sound e
 step-kept t (Buy at n) order shaped sound e = buy-kept t (at .seat) n shaped sound e
 step-kept t (Cash at n) order shaped sound e = cash-kept t (at .seat) n shaped sound e
 step-kept t (Stake at n) order shaped sound e = stake-kept t (at .seat) n shaped sound e
+step-kept t (Side at k n) order shaped sound e = side-kept t (at .seat) k n shaped sound e
 step-kept t Deal order shaped sound e = deal-kept t shaped sound e
 step-kept t (Insure at n) order shaped sound e = decision-kept t _ _ (insure-decides t at n order shaped sound e) shaped sound
 step-kept t (Stand at) order shaped sound e = decision-kept t _ _ (stand-decides t at order shaped sound e) shaped sound
@@ -86,12 +90,13 @@ step-kept t Void order shaped sound e = void-kept t shaped sound
 step-kept t Load order shaped sound e = load-kept t order shaped sound e
 
 pub step-options : (t : Table) (c : Call) (order : List ℕ) → effect t c order .options ≡ t .options
-unfolding fillEffect creditEffect buyEffect cashEffect stakeEffect dealEffect insureEffect endEffect cardEffect splitEffect surrenderEffect closeEffect voidEffect loadEffect
+unfolding fillEffect creditEffect buyEffect cashEffect stakeEffect sideEffect dealEffect insureEffect endEffect cardEffect splitEffect surrenderEffect closeEffect voidEffect loadEffect
 step-options t (Fill n) order = refl
 step-options t (Credit n) order = refl
 step-options t (Buy at n) order = refl
 step-options t (Cash at n) order = refl
 step-options t (Stake at n) order = refl
+step-options t (Side at k n) order = refl
 step-options t Deal order = refl
 step-options t (Insure at n) order = refl
 step-options t (Stand at) order = refl

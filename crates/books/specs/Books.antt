@@ -1,24 +1,25 @@
--- Demand 3, as document 01's section "The history" says it: one claim about every list of the seventeen calls, refused ones among them,
+-- Demand 3, as document 01's section "The history" says it: one claim about every list of calls, refused ones among them,
 -- from the table of an accepted opening, each call on the table that the one before returned. A field for each sentence.
 use mathlib.Core.Path.{_≡_}
 use mathlib.Core.Bool.{false}
 use mathlib.Core.List.{List, [], _++_, map}
-use Prim.Native.Nat.{ℕ, _+_, _<_}
+use Prim.Native.Nat.{ℕ, _+_, _≤_, _<_}
 use lib.IntN.{pos, _-ℤ_}
 use lib.ListN.{length}
 use Rattle.lists.specs.Sum.{countOf}
 use Rattle.options.specs.declared.Options.{Options}
 use Rattle.table.specs.declared.Table.{Table}
 use Rattle.payment.specs.Wager.{wager}
-use Rattle.table.specs.Seat.{purse, stake, insurance, hands, laid}
+use Rattle.payment.specs.Bets.{side}
+use Rattle.table.specs.Seat.{purse, stake, insurance, sides, hands, firstCards, laid}
 use Rattle.table.specs.Table.{seatAt, handCards, bankCards, tableShoe, cardsLeft, tableDiscards}
 use Rattle.table.specs.Progress.{anyDrew, anyDecided}
 use Rattle.table.specs.Money.{layout, purses}
 use Rattle.table.specs.Broken.{broken}
 use Rattle.history.specs.Entry.{Entry}
-use Rattle.history.specs.Rounds.{isDealtRound, decidedIn, drewIn, stakeIn, insuranceIn}
+use Rattle.history.specs.Rounds.{isDealtRound, decidedIn, drewIn, stakeIn, insuranceIn, sideIn}
 use Rattle.history.specs.Cards.{cardsOfHistory, drawnCards}
-use Rattle.history.specs.Hands.{handsIn}
+use Rattle.history.specs.Hands.{handsIn, firstIn}
 use Rattle.history.specs.Money.{cameIn, wentOut, laidIn, purseOf}
 use Rattle.cashier_spec.specs.Opening.{opened}
 use Rattle.engine.specs.Run.{run, accepted}
@@ -33,6 +34,9 @@ pub record Claim (o : Options) (opening : List ℕ) (es : List Entry) (t : Table
   -- and so do its stake and its insurance
   pub stake-is : (i : ℕ) → stake (seatAt t i) ≡ stakeIn es i
   pub insurance-is : (i : ℕ) → insurance (seatAt t i) ≡ insuranceIn es i
+  -- its side stakes by kind, and in a dealt round the first cards that they are paid by (request 2.6)
+  pub sides-are : (i k : ℕ) → 1 ≤ k → k ≤ 4 → side (sides (seatAt t i)) k ≡ sideIn es i k
+  pub first-is : (i : ℕ) → 0 < length (hands (seatAt t i)) → firstCards (seatAt t i) ≡ firstIn o opening es i
   -- the hands of each seat, their number and their cards place by place, and the bank's cards equal the history's
   pub hands-are : (i : ℕ) → hands (seatAt t i) ≡ handsIn o opening es i
   -- and each hand's W

@@ -34,6 +34,7 @@ fn surveyed(t: Table) -> Survey
     let dealt = is_dealt(t);
     let card = up(t);
     let mut sums = Sums {
+        stakes: 0,
         laid: 0,
         prizes: 0,
         cover: 0,
@@ -57,7 +58,7 @@ fn bank_sound(t: Table, m: Sums) -> bool
     ensures { λ r. ⌜ r ≡ soundBank t ⌝ }
 {
     let bank = t.bank;
-    bank.count == 0 || (bank.count == 1 && 0 < m.cover)
+    bank.count == 0 || (bank.count == 1 && 0 < m.stakes)
 }
 
 // All money is within the limit, and in a dealt round tray and prizes cover every stake, compared so that no sum wraps.

@@ -1,7 +1,7 @@
--- Document 01, "The seventeen calls": the kind of a call, numbered as the session file numbers them, its seat and its amount.
-use Prim.Native.Nat.{ℕ}
+-- Document 01, "The seventeen calls", and request 2.6: the kind of a call, numbered as the session file numbers them, its seat and its amount.
+use Prim.Native.Nat.{ℕ, _+_}
 use Rattle.call.specs.declared.Call.{Call}
-use Rattle.call.specs.declared.Call.the-variants.{Fill, Credit, Buy, Cash, Stake, Deal, Insure, Stand, Draw, Double, Split, Surrender, Even, Five, Close, Void, Load}
+use Rattle.call.specs.declared.Call.the-variants.{Fill, Credit, Buy, Cash, Stake, Deal, Insure, Stand, Draw, Double, Split, Surrender, Even, Five, Close, Void, Load, Side}
 
 abbrev pub kind : Call → ℕ
 kind (Fill n) = 1
@@ -21,6 +21,7 @@ kind (Five at) = 14
 kind Close = 15
 kind Void = 16
 kind Load = 17
+kind (Side at k n) = 17 + k
 
 -- The seat that the call names; 0 where it names none.
 abbrev pub seat : Call → ℕ
@@ -41,6 +42,7 @@ seat (Five at) = at .seat
 seat Close = 0
 seat Void = 0
 seat Load = 0
+seat (Side at k n) = at .seat
 
 -- The amount that the call names; 0 where it names none.
 abbrev pub amount : Call → ℕ
@@ -61,3 +63,4 @@ amount (Five at) = 0
 amount Close = 0
 amount Void = 0
 amount Load = 0
+amount (Side at k n) = n

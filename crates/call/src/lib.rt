@@ -1,4 +1,4 @@
-// The seventeen calls of document 01 as one enum, with seat and amount as data. A load carries no order: it is lent beside the call.
+// The seventeen calls of document 01 and the side stake of request 2.6 as one enum, with seat and amount as data. A load carries no order: it is lent beside the call.
 pub mod pay_line;
 pub mod refusal;
 
@@ -7,7 +7,7 @@ pub struct At {
     pub seat: u8,
 }
 
-// In the order of the session file's kinds, from 1.
+// In the order of the session file's kinds, from 1; a side stake has its own kind, 1 to 4, as data, and is the session file's kind 17 + that (request 2.6).
 pub enum Call {
     Fill(u64),
     Credit(u64),
@@ -26,4 +26,5 @@ pub enum Call {
     Close,
     Void,
     Load,
+    Side(At, u8, u64),
 }

@@ -3,10 +3,10 @@
 ghost use mathlib.Core.Path.{_≡_};
 ghost use Rattle.call.specs.PayLine.{lineName, lineSeat, linePlace, lineKind};
 
-// As many places as there can be lines: nine seats have at most four hands and an insurance each.
-pub const LINES: usize = 45;
+// As many places as there can be lines: nine seats have at most four hands, an insurance and four side stakes each.
+pub const LINES: usize = 81;
 
-// A line is for a hand or for an insurance.
+// A line is for a hand, for an insurance, or for a side stake of kind k, which is 1 + k.
 pub const HAND: u8 = 0;
 
 pub const INSURANCE: u8 = 1;

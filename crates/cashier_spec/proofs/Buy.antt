@@ -1,5 +1,5 @@
 -- An accepted buy keeps the table good: the purse and the history's money grow by the same amount.
-use mathlib.Core.Path.{_≡_, refl}
+use mathlib.Core.Path.{_≡_, refl, sym, _∙_}
 use mathlib.Core.List.{List, _∷_}
 use Prim.Native.Nat.{ℕ, _+_, _≤_, _<_}
 use native.Mathlib.Decide.{decLe}
@@ -25,6 +25,7 @@ use Rattle.history.specs.Entry.{Entry}
 use Rattle.history.specs.Aids.MakeEntry.{entry}
 use Rattle.history.specs.Money.{lays}
 use Rattle.agreement.specs.Aids.Agrees.{Good}
+use Rattle.agreement.proofs.Quiet.{sides-stay}
 use Rattle.answer.specs.Conditions.{seatConditions}
 use Rattle.cashier_spec.specs.Buy.{buyConditions, buyEffect}
 use Rattle.cashier_spec.proofs.Purse.{SeatBetween, seat-between, PurseMoves, purse-kept, purse-good}
@@ -57,7 +58,8 @@ module _ (t : Table) (j n : ℕ) (e : first (buyConditions t j n) ≡ 0) where
   buy-moves : Sound t → PurseMoves t j (withPurse (seatAt t j .money) (purse (seatAt t j) + n)) n 0
   buy-moves sound =
       let a = buy-accepted in
-      record { seat = a .seat; fits = sound .seats j (a .seat .nine) .stake-fits; pays = omega arith; same-insurance = refl; in-limit = omega (arith, a .in-limit) }
+      let was = sound .seats j (a .seat .nine) in
+      record { seat = a .seat; fits = was .stake-fits; sides-fit = was .sides-fit; as-many = refl; pays = omega arith; same-insurance = refl; in-limit = omega (arith, a .in-limit) }
 
 pub buy-kept : (t : Table) (j n : ℕ) → Shaped t → Sound t → first (buyConditions t j n) ≡ 0 → Shaped (buyEffect t j n) × Sound (buyEffect t j n)
 unfolding buyEffect
@@ -73,6 +75,7 @@ buy-good opening es t at n order g e =
       among = refl;
       of-seat = λ i. refl;
       stakes = g .agrees .seats j .stake-is;
+      sides-are = λ k h. g .agrees .seats j .sides-are k h ∙ sym (sides-stay es j (entry (Buy at n) order) refl refl k h);
       lays-more = omega (arith, cond-same {A = ℕ} (eqb j j) 0);
       buys = refl;
       cashes = refl;

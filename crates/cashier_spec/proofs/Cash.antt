@@ -1,5 +1,5 @@
 -- An accepted cash keeps the table good: the purse holds the amount, and what leaves the purse leaves the table.
-use mathlib.Core.Path.{_≡_, refl}
+use mathlib.Core.Path.{_≡_, refl, sym, _∙_}
 use mathlib.Core.List.{List, _∷_}
 use Prim.Native.Nat.{ℕ, _-_, _≤_, _<_}
 use native.Mathlib.Omega.{arith}
@@ -21,6 +21,7 @@ use Rattle.history.specs.Entry.{Entry}
 use Rattle.history.specs.Aids.MakeEntry.{entry}
 use Rattle.history.specs.Money.{lays}
 use Rattle.agreement.specs.Aids.Agrees.{Good}
+use Rattle.agreement.proofs.Quiet.{sides-stay}
 use Rattle.answer.specs.Conditions.{seatConditions}
 use Rattle.cashier_spec.specs.Cash.{cashConditions, cashEffect}
 use Rattle.cashier_spec.proofs.Purse.{SeatBetween, seat-between, PurseMoves, purse-kept, purse-good}
@@ -48,6 +49,8 @@ module _ (t : Table) (j n : ℕ) (e : first (cashConditions t j n) ≡ 0) where
       record {
         seat = a .seat;
         fits = sound .seats j (a .seat .nine) .stake-fits;
+        sides-fit = sound .seats j (a .seat .nine) .sides-fit;
+        as-many = refl;
         pays = omega (arith, a .enough);
         same-insurance = refl;
         in-limit = omega (arith, sound .money);
@@ -67,6 +70,7 @@ cash-good opening es t at n order g e =
       among = refl;
       of-seat = λ i. refl;
       stakes = g .agrees .seats j .stake-is;
+      sides-are = λ k h. g .agrees .seats j .sides-are k h ∙ sym (sides-stay es j (entry (Cash at n) order) refl refl k h);
       lays-more = omega (arith, cond-same {A = ℕ} (eqb j j) 0);
       buys = refl;
       cashes = refl;

@@ -11,3 +11,4 @@ pub mod Credit
 pub mod Buy
 pub mod Cash
 pub mod Stake
+pub mod Side

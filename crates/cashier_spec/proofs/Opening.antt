@@ -48,7 +48,7 @@ empty-at : (i : ℕ) → i < 9 → getD (replicate 9 emptySeat) i missingSeat �
 empty-at i h = getD-replicate 9 i emptySeat missingSeat h
 
 empty-shaped : ShapedSeat emptySeat
-empty-shaped = record { four-places = refl; twenty-cards = λ p h. ap (λ (x : SeatHand). length (x .hand .cards)) (getD-replicate 4 p emptyPlace missingPlace h) }
+empty-shaped = record { four-places = refl; four-sides = refl; three-first = refl; twenty-cards = λ p h. ap (λ (x : SeatHand). length (x .hand .cards)) (getD-replicate 4 p emptyPlace missingPlace h) }
 
 -- a seat that holds nothing
 module _ (o : Options) (order : List ℕ) (i : ℕ) where
@@ -56,9 +56,10 @@ module _ (o : Options) (order : List ℕ) (i : ℕ) where
   unfolding prizes laid sumOf
   empty-sound =
       record {
-        beyond = λ h. record { no-purse = refl; no-stake = refl; no-insurance = refl; no-hands = refl };
+        beyond = λ h. record { no-purse = refl; no-stake = refl; no-insurance = refl; no-sides = λ k l. getD-replicate {A = ℕ} 4 k 0 0 l; no-hands = refl };
         stake-fits = λ h. absurd (omega arith);
         insured = λ h. absurd (omega arith);
+        sides-fit = λ k l some. absurd (omega (arith, getD-replicate {A = ℕ} 4 k 0 0 l));
         waiting = λ h dealt. refl;
         playing = λ h. absurd (omega arith);
         prizes-back = omega arith;
@@ -66,11 +67,11 @@ module _ (o : Options) (order : List ℕ) (i : ℕ) where
 
   empty-agrees : SeatAgrees o order [] i emptySeat
   unfolding prizes laid sumOf
-  empty-agrees = record { stake-is = refl; insurance-is = refl; hands-are = refl; laid-is = refl; prizes-are = refl; purse-is = refl }
+  empty-agrees = record { stake-is = refl; insurance-is = refl; sides-are = λ k l. getD-replicate {A = ℕ} 4 k 0 0 l; hands-are = refl; first-is = λ some. absurd (omega arith); laid-is = refl; prizes-are = refl; purse-is = refl }
 
   none-agrees : SeatAgrees o order [] i missingSeat
   unfolding prizes laid sumOf
-  none-agrees = record { stake-is = refl; insurance-is = refl; hands-are = refl; laid-is = refl; prizes-are = refl; purse-is = refl }
+  none-agrees = record { stake-is = refl; insurance-is = refl; sides-are = λ k l. refl; hands-are = refl; first-is = λ some. absurd (omega arith); laid-is = refl; prizes-are = refl; purse-is = refl }
 
   seat-agrees : SeatAgrees o order [] i (seatAt (openTable o order) i)
   seat-agrees = go (decLe 9 i)

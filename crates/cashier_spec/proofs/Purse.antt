@@ -1,34 +1,36 @@
--- buy, cash and stake change one seat's money between rounds: it has no hand then, so what it has laid is its stake. A table stays good when purse and
--- stake change by what comes onto the table and what leaves it.
+-- buy, cash, stake and side stakes change one seat's money between rounds: it has no hand then, so what it has laid is its stake and its side stakes. A table
+-- stays good when these and the purse change by what comes onto the table and what leaves it.
 use mathlib.Core.Path.{_≡_, refl, sym, _∙_}
 use mathlib.Core.Bool.{true, false, cond, and-true, and-false, true≢false}
 use mathlib.Core.List.{List, _∷_}
 use Prim.Native.Nat.{ℕ, _+_, _≤_, _<_}
 use native.Mathlib.Omega.{arith}
 use lib.Dec.{eqb}
+use lib.ListN.{length, getD}
 use borrow.Author.Tests.{leb-false, eq-eqb, ne-eqb}
 use Rattle.lists.specs.Sum.{sumOf}
+use Rattle.payment.specs.Bets.{allSides}
 use Rattle.table.specs.declared.Money.{Money}
 use Rattle.table.specs.declared.Seat.{Seat}
 use Rattle.table.specs.declared.Table.{Table}
-use Rattle.table.specs.Seat.{withMoney, purse, stake, insurance, hands}
+use Rattle.table.specs.Seat.{withMoney, purse, stake, insurance, sides, hands}
 use Rattle.table.specs.Table.{withSeat, seatAt, noSuchSeat, isDealt, up}
 use Rattle.table.specs.Money.{mostMoney, allMoney}
 use Rattle.table.specs.Broken.{broken}
-use Rattle.options.specs.Permitted.{stakePermitted}
+use Rattle.options.specs.Permitted.{stakePermitted, mostSide}
 use Rattle.table.specs.Shape.{Shaped}
 use Rattle.table.specs.Aids.Sound.{Sound, SoundSeat}
 use Rattle.table.proofs.Facts.{seat-of-nine, laid-stake, no-prizes}
 use Rattle.table.proofs.SeatChange.{SeatChange, change-shaped, change-money, change-sound}
 use Rattle.history.specs.Entry.{Entry, isOf, isBuy, isCash, isEnd, amountOf}
-use Rattle.history.specs.Rounds.{stakeIn}
+use Rattle.history.specs.Rounds.{stakeIn, sideIn}
 use Rattle.history.specs.Cards.{callTakes}
-use Rattle.history.specs.Hands.{handsIn}
+use Rattle.history.specs.Hands.{handsIn, firstIn}
 use Rattle.history.specs.Money.{lays, wins, prizeOf}
 use Rattle.agreement.specs.Aids.Agrees.{SeatAgrees, Good}
 use Rattle.agreement.proofs.Groups.{InGroup, ofPurse, not-fill, not-credit, not-load, not-deal, not-insure, not-draw, not-double, not-split, not-decision, not-close, not-end}
 use Rattle.agreement.proofs.Purse.{purse-moves}
-use Rattle.agreement.proofs.Quiet.{hands-stay}
+use Rattle.agreement.proofs.Quiet.{hands-stay, first-stay}
 use Rattle.agreement.proofs.Events.{no-event}
 use Rattle.agreement.proofs.OneSeat.{one-call}
 use Rattle.cashier_spec.proofs.BetweenRounds.{no-hand}
@@ -52,7 +54,9 @@ moved t j m = withMoney (seatAt t j) m
 pub record PurseMoves (t : Table) (j : ℕ) (m : Money) (came went : ℕ) : Type 0 where
   pub seat : SeatBetween t j
   pub fits : 0 < m .stake → stakePermitted (t .options) (m .stake) ≡ true
-  pub pays : m .purse + went + m .stake ≡ purse (seatAt t j) + came + stake (seatAt t j)
+  pub sides-fit : (k : ℕ) → k < 4 → 0 < getD (m .sides) k 0 → (0 < m .stake) × (getD (m .sides) k 0 ≤ mostSide)
+  pub as-many : length (m .sides) ≡ length (sides (seatAt t j))
+  pub pays : m .purse + went + m .stake + allSides (m .sides) ≡ purse (seatAt t j) + came + stake (seatAt t j) + allSides (sides (seatAt t j))
   pub same-insurance : m .insurance ≡ insurance (seatAt t j)
   pub in-limit : allMoney t + came ≤ mostMoney + went
 
@@ -69,6 +73,7 @@ module _ {t : Table} {j : ℕ} {m : Money} {came went : ℕ} (moves : PurseMoves
         beyond = λ h. absurd (omega (arith, moves .seat .within));
         stake-fits = moves .fits;
         insured = λ h. not-dealt (sound .seats j (moves .seat .nine) .insured (omega (arith, moves .same-insurance)) .in-round);
+        sides-fit = moves .sides-fit;
         waiting = λ h dealt. not-dealt dealt;
         playing = λ h. absurd (omega (arith, no-hands));
         prizes-back = omega (arith, no-prizes (t .options) (moved t j m) no-hands);
@@ -79,7 +84,9 @@ module _ {t : Table} {j : ℕ} {m : Money} {came went : ℕ} (moves : PurseMoves
   change =
       record {
         within = moves .seat .within;
-        shaped-seat = record { four-places = shaped .seats j (moves .seat .nine) .four-places; twenty-cards = shaped .seats j (moves .seat .nine) .twenty-cards };
+        shaped-seat =
+            let was = shaped .seats j (moves .seat .nine) in
+            record { four-places = was .four-places; four-sides = moves .as-many ∙ was .four-sides; three-first = was .three-first; twenty-cards = was .twenty-cards };
         sound-seat = sound-moved;
         same-staked = not-dealt;
         same-cover = not-dealt;
@@ -105,7 +112,8 @@ pub record Told (es : List Entry) (t : Table) (e : Entry) (j : ℕ) (m : Money) 
   pub among : InGroup e ofPurse
   pub of-seat : (i : ℕ) → isOf i e ≡ eqb j i
   pub stakes : m .stake ≡ stakeIn (e ∷ es) j
-  pub lays-more : m .stake ≡ stake (seatAt t j) + lays j (stakeIn es j) e
+  pub sides-are : (k : ℕ) → k < 4 → getD (m .sides) k 0 ≡ sideIn (e ∷ es) j (k + 1)
+  pub lays-more : m .stake + allSides (m .sides) ≡ stake (seatAt t j) + allSides (sides (seatAt t j)) + lays j (stakeIn es j) e
   pub buys : cond (isBuy e) (amountOf e) 0 ≡ came
   pub cashes : cond (isCash e) (amountOf e) 0 ≡ went
 
@@ -123,6 +131,9 @@ module _ {opening : List ℕ} {es : List Entry} {t : Table} {j : ℕ} {m : Money
   same-hands : (i : ℕ) → handsIn (t .options) opening (e ∷ es) i ≡ handsIn (t .options) opening es i
   same-hands i = hands-stay (t .options) opening es i e (not-deal e (told .among) refl) no-end (not-decision e (told .among) refl)
 
+  same-first : (i : ℕ) → firstIn (t .options) opening (e ∷ es) i ≡ firstIn (t .options) opening es i
+  same-first i = first-stay (t .options) opening es i e (not-deal e (told .among) refl) no-end (simp (not-split e (told .among) refl))
+
   seat-agrees : SeatAgrees (t .options) opening (e ∷ es) j (moved t j m)
   seat-agrees =
       let a = g .agrees .seats j in
@@ -134,7 +145,9 @@ module _ {opening : List ℕ} {es : List Entry} {t : Table} {j : ℕ} {m : Money
       record {
         stake-is = told .stakes;
         insurance-is = moves .same-insurance ∙ a .insurance-is ∙ sym (simp (no-end, not-insure e (told .among) refl));
+        sides-are = told .sides-are;
         hands-are = a .hands-are ∙ sym (same-hands j);
+        first-is = λ some. a .first-is some ∙ sym (same-first j);
         laid-is = simp no-end (omega (arith, a .laid-is, told .lays-more, moves .same-insurance));
         prizes-are = simp no-end (omega (arith, a .prizes-are, prize-none));
         purse-is =
@@ -157,6 +170,7 @@ module _ {opening : List ℕ} {es : List Entry} {t : Table} {j : ℕ} {m : Money
         more-drawn = omega arith;
         same-fresh = refl;
         others = λ i other. same-hands i;
+        first-others = λ i other. same-first i;
         events = no-event e (hands (seatAt t j)) (not-decision e (told .among) refl);
         seat = seat-agrees;
         money =

@@ -1,5 +1,5 @@
 -- An accepted stake keeps the table good: the seat had none and its purse holds it, so the amount goes from purse to layout.
-use mathlib.Core.Path.{_≡_, refl}
+use mathlib.Core.Path.{_≡_, refl, sym, _∙_}
 use mathlib.Core.Bool.{true, _&&_, and-eq-true-iff}
 use mathlib.Core.List.{List, _∷_}
 use Prim.Native.Nat.{ℕ, _≤_, _<_}
@@ -23,6 +23,7 @@ use Rattle.history.specs.Entry.{Entry}
 use Rattle.history.specs.Aids.MakeEntry.{entry}
 use Rattle.history.specs.Money.{lays}
 use Rattle.agreement.specs.Aids.Agrees.{Good}
+use Rattle.agreement.proofs.Quiet.{sides-stay}
 use Rattle.answer.specs.Conditions.{seatConditions}
 use Rattle.cashier_spec.specs.Stake.{stakeConditions, stakeEffect}
 use Rattle.cashier_spec.proofs.Purse.{SeatBetween, seat-between, PurseMoves, purse-kept, purse-good}
@@ -61,7 +62,15 @@ module _ (t : Table) (j n : ℕ) (e : first (stakeConditions t j n) ≡ 0) where
   stake-moves : Sound t → PurseMoves t j (staking (seatAt t j .money) n) 0 0
   stake-moves sound =
       let a = stake-accepted in
-      record { seat = a .seat; fits = λ h. a .permitted; pays = omega (arith, a .unstaked, a .enough); same-insurance = refl; in-limit = omega (arith, sound .money) }
+      record {
+        seat = a .seat;
+        fits = λ h. a .permitted;
+        sides-fit = λ k h some. (a .some, sound .seats j (a .seat .nine) .sides-fit k h some .1);
+        as-many = refl;
+        pays = omega (arith, a .unstaked, a .enough);
+        same-insurance = refl;
+        in-limit = omega (arith, sound .money);
+      }
 
 pub stake-kept : (t : Table) (j n : ℕ) → Shaped t → Sound t → first (stakeConditions t j n) ≡ 0 → Shaped (stakeEffect t j n) × Sound (stakeEffect t j n)
 unfolding stakeEffect
@@ -78,6 +87,7 @@ stake-good opening es t at n order g e =
       among = refl;
       of-seat = λ i. refl;
       stakes = simp itself;
+      sides-are = λ k h. g .agrees .seats j .sides-are k h ∙ sym (sides-stay es j (entry (Stake at n) order) refl refl k h);
       lays-more = simp itself (omega (arith, stake-accepted t j n e .unstaked));
       buys = refl;
       cashes = refl;

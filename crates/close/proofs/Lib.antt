@@ -1,3 +1,5 @@
--- Laws of close as a whole: its numbers from the code's tests, and its effect from the parts. The laws of a part stand in the folder of its module.
+-- Laws of close as a whole: its numbers from the code's tests, its effect from the parts, and a seat's first cards as the code counts them. The laws of a part stand in
+-- the folder of its module.
 pub mod Effect
 pub mod Numbers
+pub mod FirstCards

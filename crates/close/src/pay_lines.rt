@@ -1,12 +1,13 @@
-// The pay lines of close (document 01, "Payment"): one for each hand and insurance, by seat, in a seat the insurance first, then the hands by place. They are
-// written into the two arrays that the caller lends, from a place `at` on; each pass gives the place behind its lines.
+// The pay lines of close (document 01, "Payment"): one for each hand, insurance and side stake, by seat, in a seat the insurance first, then the side stakes by
+// kind, then the hands by place. They are written into the two arrays that the caller lends, from a place `at` on; each pass gives the place behind its lines.
 ghost use mathlib.Core.Path.{_≡_};
+ghost use mathlib.Core.Bool.{cond};
 ghost use mathlib.Core.List.{map};
 ghost use Prim.Native.Nat.{_+_, _<_, _≤_};
-ghost use lib.ListN.{set};
+ghost use lib.ListN.{set, take};
 ghost use Rattle.rules.specs.SeatHand.{handsOf};
 ghost use Rattle.payment.specs.Pay.{net as netOf};
-ghost use Rattle.payment.specs.Pays.{insurancePays, handPays};
+ghost use Rattle.payment.specs.Pays.{insurancePays, sideDue, sidePays, handPays};
 ghost use Rattle.close_spec.specs.PayLines.{lineOf, seatLines, allLines};
 ghost use Rattle.close.specs.Aids.LinesAt.{LinesAt};
 use call::pay_line::HAND;
@@ -18,6 +19,7 @@ use payment::bank::Score;
 use payment::hand_pay::hand_pay;
 use payment::insurance::insurance_pay;
 use payment::pay::Pay;
+use payment::side_pay::side_pay;
 use rules::seat_hand::SeatHands;
 use rules::seat_hand::used;
 use table::Seat;
@@ -25,7 +27,7 @@ use table::Table;
 
 // One line: its name, and the net, what goes back less what lay there.
 fn put_line(names: &mut [u32; LINES], nets: &mut [i64; LINES], at: usize, name: u32, p: Pay)
-    requires { ⌜ (at < 45) × (p .laid ≤ 1000000000000000) × (p .back ≤ 1000000000000000) ⌝ }
+    requires { ⌜ (at < 81) × (p .laid ≤ 1000000000000000) × (p .back ≤ 1000000000000000) ⌝ }
     ensures named { λ _. ⌜ now (names .exit) ≡ set (now (names .entry)) at name ⌝ }
     ensures paid { λ _. ⌜ now (nets .exit) ≡ set (now (nets .entry)) at (netOf p) ⌝ }
 {
@@ -45,7 +47,7 @@ fn hand_lines(
     seat: u8,
     hands: SeatHands,
 ) -> usize
-    requires { ⌜ at + 4 ≤ 45 ⌝ }
+    requires { ⌜ at + 4 ≤ 81 ⌝ }
     ensures few { λ r. ⌜ r ≤ at + 4 ⌝ }
     ensures lines { λ r. ⌜ LinesAt (now (names .entry)) (now (nets .entry)) at (map (lineOf seat) (handPays o bank stake 0 (handsOf hands))) (now (names .exit)) (now (nets .exit)) r ⌝ }
 {
@@ -68,7 +70,7 @@ fn insurance_lines(
     seat: u8,
     insurance: u32,
 ) -> usize
-    requires { ⌜ at + 1 ≤ 45 ⌝ }
+    requires { ⌜ at + 1 ≤ 81 ⌝ }
     ensures few { λ r. ⌜ r ≤ at + 1 ⌝ }
     ensures lines { λ r. ⌜ LinesAt (now (names .entry)) (now (nets .entry)) at (map (lineOf seat) (insurancePays bank insurance)) (now (names .exit)) (now (nets .exit)) r ⌝ }
 {
@@ -81,6 +83,50 @@ fn insurance_lines(
     at + 1
 }
 
+// A line for a side stake of that kind, if there is one.
+fn side_line(
+    names: &mut [u32; LINES],
+    nets: &mut [i64; LINES],
+    at: usize,
+    seat: u8,
+    kind: u8,
+    stake: u32,
+    first: [u8; 3],
+    split: bool,
+) -> usize
+    requires { ⌜ (at + 1 ≤ 81) × (kind ≤ 4) ⌝ }
+    ensures few { λ r. ⌜ r ≤ at + 1 ⌝ }
+    ensures lines { λ r. ⌜ LinesAt (now (names .entry)) (now (nets .entry)) at (map (lineOf seat) (sideDue kind stake (take (cond split 3 2) first))) (now (names .exit)) (now (nets .exit)) r ⌝ }
+{
+    if stake == 0 {
+        return at;
+    }
+    let pay = side_pay(kind, stake, first, split);
+    let name = line_name(seat, 0, 1 + kind);
+    put_line(names, nets, at, name, pay);
+    at + 1
+}
+
+// The lines of the side stakes, by kind.
+fn side_lines(
+    names: &mut [u32; LINES],
+    nets: &mut [i64; LINES],
+    at: usize,
+    seat: u8,
+    sides: [u32; 4],
+    first: [u8; 3],
+    split: bool,
+) -> usize
+    requires { ⌜ at + 4 ≤ 81 ⌝ }
+    ensures few { λ r. ⌜ r ≤ at + 4 ⌝ }
+    ensures lines { λ r. ⌜ LinesAt (now (names .entry)) (now (nets .entry)) at (map (lineOf seat) (sidePays sides (take (cond split 3 2) first))) (now (names .exit)) (now (nets .exit)) r ⌝ }
+{
+    let pair = side_line(names, nets, at, seat, 1, sides[0], first, split);
+    let sevens = side_line(names, nets, pair, seat, 2, sides[1], first, split);
+    let more = side_line(names, nets, sevens, seat, 3, sides[2], first, split);
+    side_line(names, nets, more, seat, 4, sides[3], first, split)
+}
+
 // The lines of a seat.
 fn seat_lines(
     names: &mut [u32; LINES],
@@ -91,17 +137,20 @@ fn seat_lines(
     seat: u8,
     s: Seat,
 ) -> usize
-    requires { ⌜ at + 5 ≤ 45 ⌝ }
-    ensures few { λ r. ⌜ r ≤ at + 5 ⌝ }
+    requires { ⌜ at + 9 ≤ 81 ⌝ }
+    ensures few { λ r. ⌜ r ≤ at + 9 ⌝ }
     ensures lines { λ r. ⌜ LinesAt (now (names .entry)) (now (nets .entry)) at (seatLines o bank seat s) (now (names .exit)) (now (nets .exit)) r ⌝ }
 {
     let money = s.money;
     let hands = s.hands;
-    let behind = insurance_lines(names, nets, at, bank, seat, money.insurance);
-    hand_lines(names, nets, behind, o, bank, money.stake, seat, hands)
+    let sides = money.sides;
+    let first = s.first;
+    let insured = insurance_lines(names, nets, at, bank, seat, money.insurance);
+    let sided = side_lines(names, nets, insured, seat, sides, first, hands.many != 1);
+    hand_lines(names, nets, sided, o, bank, money.stake, seat, hands)
 }
 
-// The lines of all seats, from the arrays' front: at most five each, so that there are places enough for every table, a damaged one too.
+// The lines of all seats, from the arrays' front: at most nine each, so that there are places enough for every table, a damaged one too.
 pub(crate) fn all_lines(
     names: &mut [u32; LINES],
     nets: &mut [i64; LINES],

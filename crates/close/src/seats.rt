@@ -1,4 +1,4 @@
-// The seats at the end of a round (document 01, "The seventeen calls" and "Payment"): void and close leave each without stake, insurance and hands,
+// The seats at the end of a round (document 01, "The seventeen calls" and "Payment"): void and close leave each without stakes, insurance and hands,
 // and differ only in its purse.
 ghost use mathlib.Core.Path.{_≡_};
 ghost use mathlib.Core.List.{map};

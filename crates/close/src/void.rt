@@ -34,7 +34,7 @@ fn void_number(t: Table) -> u8
     ensures { λ r. ⌜ r ≡ first (voidConditions t) ⌝ }
 {
     let sums = table_sums(t);
-    asked(6, sums.cover == 0, 0)
+    asked(6, sums.stakes == 0, 0)
 }
 
 pub fn void(t: Table) -> Outcome

@@ -50,7 +50,8 @@ abbrev purseBack : Options → Seat → ℕ
 purseBack o s = purse (voidSeat o s)
 
 nothing-back : (o : Options) (s : Seat) → HoldsNothing s → purseBack o s ≡ 0
-nothing-back o s n = omega (arith, laid-stake s (n .no-hands))
+nothing-back o s n =
+    omega (arith, laid-stake s (n .no-hands), n .no-sides 0 (omega arith), n .no-sides 1 (omega arith), n .no-sides 2 (omega arith), n .no-sides 3 (omega arith))
 
 -- the prizes of the seat of any number are within its purse and what it laid
 prizes-within : (t : Table) → Shaped t → Sound t → (i : ℕ) → prizes (t .options) (seatAt t i) ≤ purse (seatAt t i) + laid (seatAt t i)

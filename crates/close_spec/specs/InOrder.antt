@@ -1,20 +1,24 @@
--- Request 2.3: pay lines from the left. Lines of close stand by seat; in a seat the insurance comes first, then its hands by place. With each line exactly once
+-- Request 2.3: pay lines from the left. Lines of close stand by seat; in a seat the insurance comes first, then its side stakes by kind (request 2.6), then its hands by
+-- place. With each line exactly once
 -- (EachOnce.antt) the answer of close is thereby wholly fixed.
 use mathlib.Core.Path.{_≡_}
-use mathlib.Core.Bool.{Bool, true, _&&_, _||_}
+use mathlib.Core.Bool.{Bool, true, not, cond, _&&_, _||_}
 use mathlib.Core.List.{List, [], _∷_}
 use lib.Dec.{ltb, eqb}
 use Rattle.lists.specs.Tests.{allOf}
 use Rattle.call.specs.PayLine.{PayLine}
 use Rattle.options.specs.declared.Options.{Options}
 use Rattle.payment.specs.declared.bank.Score.{Score}
-use Rattle.payment.specs.Pays.{handKind, insuranceKind}
+use Rattle.payment.specs.Pays.{handKind}
 use Rattle.table.specs.declared.Seat.{Seat}
 use Rattle.close_spec.specs.PayLines.{allLines}
 
--- In a seat a line stands before another: an insurance before a hand, a hand before one in a later place.
+-- In a seat a line stands before another: an insurance before a side stake, this before one of a later kind (request 2.6), each of them before a hand, and a hand
+-- before one in a later place.
 abbrev pub beforeInSeat : PayLine → PayLine → Bool
-beforeInSeat l m = eqb (m .kind) handKind && (eqb (l .kind) insuranceKind || eqb (l .kind) handKind && ltb (l .place) (m .place))
+beforeInSeat l m =
+    cond (eqb (m .kind) handKind) (not (eqb (l .kind) handKind) || ltb (l .place) (m .place))
+    (not (eqb (l .kind) handKind) && ltb (l .kind) (m .kind))
 
 -- A line stands before another: by seat, then in the seat.
 abbrev pub standsBefore : PayLine → PayLine → Bool

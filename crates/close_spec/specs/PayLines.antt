@@ -1,5 +1,6 @@
--- Document 01, "Payment": one pay line (seat, place, hand or insurance, net; place 0 where it is no hand) for each hand and insurance.
--- Request 2.3: they stand by seat; in a seat the insurance first, then the hands by place.
+-- Document 01, "Payment", and request 2.6: one pay line (seat, place, hand, insurance or side stake, net; place 0 where it is no hand) for each hand, insurance and
+-- side stake.
+-- Request 2.3: they stand by seat; in a seat the insurance first, then the side stakes by kind, then the hands by place.
 use mathlib.Core.List.{List, [], _∷_, _++_, map}
 use Prim.Native.Nat.{ℕ, suc}
 use Rattle.call.specs.PayLine.{PayLine, line}
@@ -8,11 +9,11 @@ use Rattle.payment.specs.declared.bank.Score.{Score}
 use Rattle.payment.specs.Pay.{net}
 use Rattle.payment.specs.Pays.{Due, paysOf}
 use Rattle.table.specs.declared.Seat.{Seat}
-use Rattle.table.specs.Seat.{stake, insurance, hands}
+use Rattle.table.specs.Seat.{betsOf}
 
 -- All that is paid to a seat.
 abbrev pub seatPays : Options → Score → Seat → List Due
-seatPays o bank s = paysOf o bank (stake s) (insurance s) (hands s)
+seatPays o bank s = paysOf o bank (betsOf s)
 
 -- The line of a pay.
 abbrev pub lineOf : ℕ → Due → PayLine

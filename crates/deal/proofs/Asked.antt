@@ -1,4 +1,4 @@
--- The conditions of deal from the code's tests: nothing is staked exactly if nothing is to be covered, which void asks too.
+-- The conditions of deal from the code's tests: nothing is staked exactly if the stakes come to 0, which void asks too.
 use mathlib.Core.Path.{_≡_, sym, _∙_, ap}
 use mathlib.Core.Bool.{Bool, false, not}
 use Prim.Native.Nat.{ℕ}
@@ -14,16 +14,16 @@ use Rattle.money.specs.Sums.{tableSums}
 use Rattle.money.proofs.sums.Capping.{none-staked, is-staked}
 use Rattle.deal_spec.specs.Deal.{dealTakes, dealConditions}
 
-pub nothing-staked : (t : Table) (m : Sums) → m ≡ tableSums t → not (someStaked t) ≡ eqb (m .cover) 0
-nothing-staked t m sums = go (ℕ-discrete (m .cover) 0)
+pub nothing-staked : (t : Table) (m : Sums) → m ≡ tableSums t → not (someStaked t) ≡ eqb (m .stakes) 0
+nothing-staked t m sums = go (ℕ-discrete (m .stakes) 0)
   where
-    go : Dec (m .cover ≡ 0) → not (someStaked t) ≡ eqb (m .cover) 0
-    go (yes none) = ap not (none-staked t m sums none) ∙ sym (eq-eqb (m .cover) 0 none)
-    go (no some) = ap not (is-staked t m sums some) ∙ sym (ne-eqb (m .cover) 0 some)
+    go : Dec (m .stakes ≡ 0) → not (someStaked t) ≡ eqb (m .stakes) 0
+    go (yes none) = ap not (none-staked t m sums none) ∙ sym (eq-eqb (m .stakes) 0 none)
+    go (no some) = ap not (is-staked t m sums some) ∙ sym (ne-eqb (m .stakes) 0 some)
 
 -- the code's tests, asked in the order of the list, of a table that is not broken
 pub deal-asked : (t : Table) {dealt : Bool} {m : Sums} {left takes : ℕ} → broken t ≡ false → dealt ≡ isDealt t → m ≡ tableSums t → left ≡ cardsLeft t → takes ≡ dealTakes t
-    → asked 4 dealt (asked 6 (eqb (m .cover) 0) (asked 16 (ltb (t .tray) (m .cover)) (asked 17 (leb left (t .options .cut)) (asked 17 (ltb left takes) 0))))
+    → asked 4 dealt (asked 6 (eqb (m .stakes) 0) (asked 16 (ltb (t .tray) (m .cover)) (asked 17 (leb left (t .options .cut)) (asked 17 (ltb left takes) 0))))
     ≡ first (dealConditions t)
 unfolding dealConditions first
 deal-asked t {dealt} {m} {left} {takes} whole is-dealt sums is-left is-takes =

@@ -37,7 +37,7 @@ fn deal_number(t: Table) -> u8
         is_dealt(t),
         asked(
             6,
-            sums.cover == 0,
+            sums.stakes == 0,
             asked(
                 16,
                 t.tray < sums.cover,

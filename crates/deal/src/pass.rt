@@ -2,6 +2,7 @@
 ghost use mathlib.Core.Path.{_≡_};
 ghost use mathlib.Core.Bool.{cond};
 ghost use Prim.Native.Nat.{_≤_};
+ghost use lib.ListN.{set};
 ghost use Rattle.table.specs.Seat.{isStaked};
 ghost use Rattle.deal_spec.specs.Deal.{stakedSeats};
 ghost use Rattle.deal.specs.Aids.Passed.{handFor, give, serve, passed};
@@ -48,7 +49,20 @@ fn hand_for(first: bool, s: SeatHands) -> Hand
     h.hand
 }
 
-// The seat with one hand alone, which has the card.
+// The copies of the first cards, with this one: the first or the second of the seat.
+fn kept(first: bool, cards: [u8; 3], card: u8) -> [u8; 3]
+    ensures { λ r. ⌜ r ≡ set cards (cond first 0 1) card ⌝ }
+{
+    let mut next = cards;
+    if first {
+        next[0] = card;
+    } else {
+        next[1] = card;
+    }
+    next
+}
+
+// The seat with one hand alone, which has the card; a copy of it is kept for the side stakes.
 fn with_next(first: bool, s: Seat, card: u8) -> Seat
     ensures { λ r. ⌜ r ≡ give first s card ⌝ }
 {
@@ -60,8 +74,11 @@ fn with_next(first: bool, s: Seat, card: u8) -> Seat
         ended: NOT_ENDED,
     };
     hands.many = 1;
+    let old = s.first;
+    let cards = kept(first, old, card);
     let mut next = s;
     next.hands = hands;
+    next.first = cards;
     next
 }
 

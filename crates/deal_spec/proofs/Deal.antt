@@ -7,7 +7,7 @@ use native.Mathlib.Decide.{decLe}
 use native.Mathlib.Omega.{arith}
 use lib.Dec.{ltb, leb, eqb}
 use lib.IntN.{pos}
-use lib.ListN.{getD}
+use lib.ListN.{length, getD}
 use lib.Seq.{getD-take, take-all}
 use borrow.Author.Tests.{le-leb, lt-leb, eq-eqb, ne-eqb}
 use Rattle.lists.specs.Tests.{anyOf}
@@ -17,12 +17,12 @@ use Rattle.call.specs.Refusal.{first}
 use Rattle.cards.specs.Hand.{withCard}
 use Rattle.options.specs.declared.Options.{Options}
 use Rattle.options.specs.Aids.Facts.{InRange}
-use Rattle.rules.specs.SeatHand.{dealt, notEnded, hasTwoCards}
+use Rattle.rules.specs.SeatHand.{Played, dealt, notEnded, hasTwoCards}
 use Rattle.rules.specs.Drew.{seatDrew}
 use Rattle.table.specs.declared.Money.{Money}
 use Rattle.table.specs.declared.Shoe.{Shoe}
 use Rattle.table.specs.declared.Table.{Table}
-use Rattle.table.specs.Seat.{missingSeat, purse, stake, insurance, isStaked, hands}
+use Rattle.table.specs.Seat.{missingSeat, purse, stake, insurance, isStaked, hands, firstCards}
 use Rattle.table.specs.Shoe.{isFresh}
 use Rattle.table.specs.Table.{seatAt}
 use Rattle.table.specs.Progress.{anyDrew, anyDecided}
@@ -33,17 +33,18 @@ use Rattle.history.specs.Entry.{Entry}
 use Rattle.history.specs.Aids.MakeEntry.{entry}
 use Rattle.history.specs.Rounds.{stakeIn, stakedBelow}
 use Rattle.history.specs.Cards.{Cards, dealBurns, callTakes, bankAfter, cardsAfter, cardsOfHistory}
-use Rattle.history.specs.Hands.{played, dealtHand, handsAfter, handsIn}
+use Rattle.history.specs.Hands.{played, missingHand, dealtHand, handsAfter, handsIn, firstAfter, firstIn}
 use Rattle.history.specs.Money.{lays, wins, prizeOf, purseOf}
 use Rattle.agreement.specs.Aids.Agrees.{SeatAgrees, CardsAgree, Agrees, Good}
 use Rattle.agreement.proofs.Purse.{purse-moves}
+use Rattle.agreement.proofs.Quiet.{sides-stay}
 use Rattle.agreement.proofs.Events.{seatDecided, nobody-decided}
 use Rattle.deal_spec.specs.Burn.{firstBurn, laterBurn, burnAtDeal}
 use Rattle.deal_spec.specs.Deal.{stakedSeats, burnt, dealTakes, dealtSeats, upCard, dealConditions, dealEffect}
 use Rattle.lists.proofs.Parts.{sum-first, sum-before}
 use Rattle.lists.proofs.Tests.{cond-same}
 use Rattle.deal_spec.proofs.DealAccepted.{DealAccepted, deal-accepted}
-use Rattle.deal_spec.proofs.DealtSeat.{dealt-hands}
+use Rattle.deal_spec.proofs.DealtSeat.{dealt-hands, dealt-first}
 use Rattle.deal_spec.proofs.DealSound.{firstPlace, secondPlace, stakedBefore, firstOf, secondOf, dealtAt, past, no-hand-yet, staked-nine, dealt-either, laid-after, prizes-after, deal-money, deal-shaped, deal-sound}
 
 -- the burn, as the history says it
@@ -131,6 +132,15 @@ module _ (opening : List ℕ) (es : List Entry) (t : Table) (order : List ℕ) (
       (dealt-hands (seatAt t i) (g .shaped .seats i within .four-places) (firstOf t i) (secondOf t i)
       ∙ ap₂ (λ (x y : ℕ). played (x ∷ y ∷ []) dealt notEnded ∷ []) first-card second-card)
 
+  -- its first cards are the two of that hand
+  first-is : (i : ℕ) → isStaked (seatAt t i) ≡ true → firstCards (dealtAt t i) ≡ firstIn (t .options) opening (e ∷ es) i
+  unfolding firstAfter
+  first-is i staked =
+      let was = g .shaped .seats i (staked-nine t (g .shaped) ok i staked) in
+      let hand = dealt-hands (seatAt t i) (was .four-places) (firstOf t i) (secondOf t i) in
+      dealt-first (seatAt t i) (was .four-places) (firstOf t i) (secondOf t i) (was .three-first)
+      ∙ ap (λ (hs : List Played). getD hs 0 missingHand .cards) (sym hand ∙ hand-is i staked)
+
   no-hand-is : (i : ℕ) → isStaked (seatAt t i) ≡ false → hands (seatAt t i) ≡ handsIn (t .options) opening (e ∷ es) i
   unfolding handsAfter
   no-hand-is i none = let there : ltb 0 (stakeIn es i) ≡ false = ap (ltb 0) (sym (g .agrees .seats i .stake-is)) ∙ none in rw there (no-hands (seatAt t i) (no-hand-yet t (g .shaped) ok i))
@@ -152,12 +162,15 @@ module _ (opening : List ℕ) (es : List Entry) (t : Table) (order : List ℕ) (
   seat-agrees i =
       let a = g .agrees .seats i in
       let both =
-      dealt-either t (g .shaped) ok i (λ x. (x .money ≡ seatAt t i .money) × (hands x ≡ handsIn (t .options) opening (e ∷ es) i))
-      (λ staked. (refl, hand-is i staked)) (λ none. (refl, no-hand-is i none)) in
+      dealt-either t (g .shaped) ok i (λ x. (x .money ≡ seatAt t i .money) × (hands x ≡ handsIn (t .options) opening (e ∷ es) i) × (0 < length (hands x) → firstCards x ≡ firstIn (t .options) opening (e ∷ es) i))
+      (λ staked. (refl, hand-is i staked, λ some. first-is i staked))
+      (λ none. (refl, no-hand-is i none, λ some. absurd (omega (arith, ap length (no-hands (seatAt t i) (no-hand-yet t (g .shaped) ok i)))))) in
       record {
         stake-is = ap (λ (m : Money). m .stake) (both .0) ∙ a .stake-is;
         insurance-is = ap (λ (m : Money). m .insurance) (both .0) ∙ a .insurance-is;
+        sides-are = λ k h. ap (λ (m : Money). getD (m .sides) k 0) (both .0) ∙ a .sides-are k h ∙ sym (sides-stay es i e refl refl k h);
         hands-are = both .1;
+        first-is = both .2;
         laid-is = omega (arith, laid-after t (g .shaped) ok i, a .laid-is, lays-none i (stakeIn es i));
         prizes-are = omega (arith, prizes-after t (g .shaped) ok i, no-prizes (t .options) (seatAt t i) (no-hand-yet t (g .shaped) ok i), a .prizes-are, prize-none i);
         purse-is = ap (λ (m : Money). pos (m .purse)) (both .0) ∙ purse-is i;

@@ -15,11 +15,12 @@ use Rattle.lists.specs.Flat.{flat}
 use Rattle.lists.proofs.Sums.{sum-append, sum-flat, sum-none, sum-ones, sum-take}
 use Rattle.lists.proofs.Places.{same-taken, taken-same}
 use Rattle.cards.specs.Hand.{withCard}
-use Rattle.payment.specs.Cover.{cover as coverOf}
+use Rattle.payment.specs.Cover.{cover as coverOf, sideCover}
+use Rattle.payment.specs.Bets.{allSides}
 use Rattle.table.specs.declared.Money.{Money}
 use Rattle.table.specs.declared.Seat.{Seat}
 use Rattle.table.specs.declared.Table.{Table}
-use Rattle.table.specs.Seat.{missingSeat, purse, stake, insurance, isStaked, laid, prizes, seatCards}
+use Rattle.table.specs.Seat.{missingSeat, purse, stake, insurance, sides, isStaked, laid, prizes, seatCards}
 use Rattle.table.specs.Table.{seatAt, up, handCards, bankCards, tableDrawn, tableShoe, tableDiscards}
 use Rattle.table.specs.Money.{allMoney}
 use Rattle.table.specs.Faces.{outCards}
@@ -150,8 +151,8 @@ module _ (t : Table) (shaped : Shaped t) (ok : DealAccepted t) where
   unfolding dealtSeats
   as-many = pass-length secondCard (t .shoe .order) (secondPlace t) once ∙ pass-length firstCard (t .shoe .order) (firstPlace t) (t .seats)
 
-  -- what a seat laid is its stake, before the deal and after it
-  laid-before : (i : ℕ) → laid (seatAt t i) ≡ stake (seatAt t i)
+  -- what a seat laid is its stake and its side stakes, before the deal and after it
+  laid-before : (i : ℕ) → laid (seatAt t i) ≡ stake (seatAt t i) + allSides (sides (seatAt t i))
   laid-before i = laid-stake (seatAt t i) (no-hand-yet i)
 
   pub laid-after : (i : ℕ) → laid (getD (dealtSeats t) i missingSeat) ≡ laid (seatAt t i)
@@ -298,6 +299,7 @@ module _ (t : Table) (shaped : Shaped t) (ok : DealAccepted t) where
         beyond = f .beyond;
         stake-fits = f .stake-fits;
         insured = λ some. absurd (omega (arith, no-insurance-yet i));
+        sides-fit = f .sides-fit;
         waiting = λ empty dealt. omega (arith, ltb-false 0 (stake (seatAt t i)) none);
         playing = λ some. absurd (omega (arith, no-hand-yet i));
         prizes-back = f .prizes-back;
@@ -327,5 +329,5 @@ module _ (t : Table) (shaped : Shaped t) (ok : DealAccepted t) where
     bank = omega arith;
     round = λ dealt. some-staked ∙ ok .some;
     money = omega (arith, deal-money, ok .sound .money);
-    cover = λ dealt. omega (arith, over-money (λ m. coverOf (m .stake)), ok .covered);
+    cover = λ dealt. omega (arith, over-money (λ m. coverOf (m .stake) + sideCover (m .sides)), ok .covered);
   }

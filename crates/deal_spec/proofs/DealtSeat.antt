@@ -1,10 +1,10 @@
--- A staked seat after both passes: one hand of the two cards, not ended, with the stake as its wager and no prize.
+-- A staked seat after both passes: one hand of the two cards, which are its first cards, not ended, with the stake as its wager and no prize.
 use mathlib.Core.Path.{_≡_, refl, sym, _∙_, ap}
 use mathlib.Core.Bool.{true, false, and-false, true≢false}
-use mathlib.Core.List.{[], _∷_, map}
+use mathlib.Core.List.{List, [], _∷_, map}
 use Prim.Native.Nat.{ℕ, _+_, _≤_, _<_}
 use native.Mathlib.Omega.{arith}
-use lib.ListN.{length, length-set}
+use lib.ListN.{length, take, set, length-set}
 use lib.Seq.{getD-set-same, set-set, take-suc-set}
 use Rattle.lists.specs.Sum.{sumOf}
 use Rattle.lists.specs.Flat.{flat}
@@ -17,24 +17,34 @@ use Rattle.rules.specs.declared.seat_hand.SeatHand.{SeatHand}
 use Rattle.rules.specs.SeatHand.{playedOf, dealt, notEnded}
 use Rattle.payment.specs.Wager.{wager}
 use Rattle.payment.specs.Prize.{prize}
+use Rattle.payment.specs.Bets.{allSides}
 use Rattle.table.specs.declared.Seat.{Seat}
-use Rattle.table.specs.Seat.{missingPlace, stake, insurance, hands, seatCards, laid, prizes}
+use Rattle.table.specs.Seat.{makeSeat, missingPlace, stake, insurance, sides, hands, seatCards, firstCards, laid, prizes}
 use Rattle.table.specs.Shape.{ShapedSeat}
 use Rattle.table.specs.Broken.{soundOrigin, soundEnding}
 use Rattle.table.specs.Aids.Sound.{SoundSeat, SoundHand}
 use Rattle.history.specs.Hands.{played}
-use Rattle.deal_spec.specs.Pass.{withOnly, firstCard, secondCard}
+use Rattle.deal_spec.specs.Pass.{firstCard, secondCard}
 
--- the hand, and the seat with it
+-- the hand, a seat with one hand and these first cards, and the seat with both cards
 abbrev pub twoCards : ℕ → ℕ → SeatHand
 twoCards a b = record { hand = withCard (withCard emptyHand a) b; origin = dealt; ended = notEnded }
 
+abbrev only : Seat → SeatHand → List ℕ → Seat
+only s h first = makeSeat (s .money) (record { places = set (s .hands .places) 0 h; many = 1 }) first
+
 abbrev pub dealtSeat : Seat → ℕ → ℕ → Seat
-dealtSeat s a b = withOnly s (twoCards a b)
+dealtSeat s a b = only s (twoCards a b) (set (set (s .first) 0 a) 1 b)
 
 -- a seat's hand where it has but one
-only-hand : (s : Seat) (h : SeatHand) → length (s .hands .places) ≡ 4 → hands (withOnly s h) ≡ playedOf h ∷ []
-only-hand s h four = ap (map playedOf) (take-suc-set (s .hands .places) 0 h (omega arith))
+only-hand : (s : Seat) (h : SeatHand) (first : List ℕ) → length (s .hands .places) ≡ 4 → hands (only s h first) ≡ playedOf h ∷ []
+only-hand s h first four = ap (map playedOf) (take-suc-set (s .hands .places) 0 h (omega arith))
+
+-- the two cards in front
+two-first : (xs : List ℕ) (a b : ℕ) → 2 ≤ length xs → take 2 (set (set xs 0 a) 1 b) ≡ a ∷ b ∷ []
+two-first [] a b h = absurd (omega arith)
+two-first (x ∷ []) a b h = absurd (omega arith)
+two-first (x ∷ y ∷ xs) a b h = refl
 
 module _ (s : Seat) (four : length (s .hands .places) ≡ 4) (a b : ℕ) where
   -- the second card goes to the first one's hand
@@ -45,11 +55,14 @@ module _ (s : Seat) (four : length (s .hands .places) ≡ 4) (a b : ℕ) where
 
   pub dealt-hands : hands (dealtSeat s a b) ≡ played (a ∷ b ∷ []) dealt notEnded ∷ []
   unfolding withCard
-  dealt-hands = only-hand s (twoCards a b) four
+  dealt-hands = only-hand s (twoCards a b) (set (set (s .first) 0 a) 1 b) four
+
+  pub dealt-first : length (s .first) ≡ 3 → firstCards (dealtSeat s a b) ≡ a ∷ b ∷ []
+  dealt-first three = rw dealt-hands (two-first (s .first) a b (omega arith))
 
   pub first-cards : (w : ℕ → ℕ) → sumOf w (seatCards (firstCard s a)) ≡ w a
   unfolding withCard flat sumOf
-  first-cards w = rw (only-hand s (record { hand = withCard emptyHand a; origin = dealt; ended = notEnded }) four) (omega arith)
+  first-cards w = rw (only-hand s (record { hand = withCard emptyHand a; origin = dealt; ended = notEnded }) (set (s .first) 0 a) four) (omega arith)
 
   dealt-cards : (w : ℕ → ℕ) → sumOf w (seatCards (dealtSeat s a b)) ≡ w a + w b
   unfolding flat sumOf
@@ -58,7 +71,7 @@ module _ (s : Seat) (four : length (s .hands .places) ≡ 4) (a b : ℕ) where
   pub second-cards : (w : ℕ → ℕ) → sumOf w (seatCards (secondCard (firstCard s a) b)) ≡ sumOf w (seatCards (firstCard s a)) + w b
   second-cards w = omega (arith, ap (λ (x : Seat). sumOf w (seatCards x)) both-cards, dealt-cards w, first-cards w)
 
-  pub dealt-laid : laid (dealtSeat s a b) ≡ stake s + insurance s
+  pub dealt-laid : laid (dealtSeat s a b) ≡ stake s + insurance s + allSides (sides s)
   unfolding laid sumOf wager
   dealt-laid = rw dealt-hands (omega arith)
 
@@ -75,6 +88,8 @@ module _ (s : Seat) (four : length (s .hands .places) ≡ 4) (a b : ℕ) where
   dealt-shaped shaped =
       record {
         four-places = length-set (s .hands .places) 0 (twoCards a b) ∙ four;
+        four-sides = shaped .four-sides;
+        three-first = length-set (set (s .first) 0 a) 1 b ∙ length-set (s .first) 0 a ∙ shaped .three-first;
         twenty-cards = λ p h. holds-set (λ n x. length (x .hand .cards) ≡ 20) (s .hands .places) 0 p (twoCards a b) missingPlace (omega arith) refl (shaped .twenty-cards p h);
       }
 
@@ -85,6 +100,7 @@ module _ (s : Seat) (four : length (s .hands .places) ≡ 4) (a b : ℕ) where
         beyond = λ h. absurd (omega (arith, f .beyond h .no-stake));
         stake-fits = f .stake-fits;
         insured = λ h. absurd (true≢false (sym (f .insured h .in-round)));
+        sides-fit = f .sides-fit;
         waiting = λ none. absurd (omega arith);
         playing = λ h. record {
           in-round = refl;

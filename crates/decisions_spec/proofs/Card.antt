@@ -24,7 +24,7 @@ use Rattle.rules.specs.Permits.{takesCards}
 use Rattle.payment.specs.Wager.{wager}
 use Rattle.payment.specs.Prize.{prize}
 use Rattle.payment.proofs.Bounds.{wager-single, prize-none, prize-most}
-use Rattle.history.specs.Entry.{Entry, isInsure, isDraw, isDouble}
+use Rattle.history.specs.Entry.{Entry, isInsure, isDraw, isDouble, isSplit}
 use Rattle.history.specs.Cards.{Cards, callTakes}
 use Rattle.history.specs.Hands.{played, missingHand, nextCard}
 use Rattle.history.specs.Money.{lays, wins}
@@ -60,6 +60,7 @@ next-card t c n agree left =
 pub record Growing (t : Table) (e : Entry) (j more code : ℕ) : Type 0 where
   pub guest : Guest e j
   pub no-insure : isInsure e ≡ false
+  pub no-split : isSplit e ≡ false
   pub gives : isDraw e || isDouble e ≡ true
   pub takes : (staked : ℕ) (c : Cards) → callTakes (t .options) staked c e ≡ 1
   pub decides : (c : Cards) (h : Played) → getD (hands (seatAt t j)) (waitingPlaceOf t j) missingHand ≡ h → h .ended ≡ notEnded
@@ -161,8 +162,10 @@ module _ (t : Table) (e : Entry) (j more code : ℕ) (shaped : Shaped t) (sound 
       record {
         guest = g .guest;
         no-insure = g .no-insure;
+        no-split = g .no-split;
         same-stake = refl;
         same-insurance = refl;
+        same-sides = refl;
         full = more-full (t .options) (up t) (s .hands .many) h (cardAhead t 0) code full was (a .below);
         sound-hand = more-sound (t .options) (up t) (s .hands .many) h (cardAhead t 0) code full was (a .below) (a .fits cards);
         turn-is = λ in-turn. turn;

@@ -80,6 +80,7 @@ module _ (t : Table) (at : At) (order : List ℕ) where
       record {
         guest = record { among = refl; seat-is = refl };
         no-insure = refl;
+        no-split = refl;
         gives = refl;
         takes = λ staked c. refl;
         decides = λ c h same still-open. ap (λ (x : Played). set (hands (seatAt t j)) (waitingPlaceOf t j) (finished (grown x (nextCard c 0)) byDouble)) same;

@@ -50,6 +50,7 @@ module _ (t : Table) (at : At) (order : List ℕ) where
       record {
         guest = record { among = refl; seat-is = refl };
         no-insure = refl;
+        no-split = refl;
         gives = refl;
         takes = λ staked c. refl;
         decides = λ c h same still-open.

@@ -23,7 +23,7 @@ use Rattle.table.specs.Broken.{soundOrigin, soundEnding}
 use Rattle.table.specs.Shape.{Shaped}
 use Rattle.table.specs.Aids.Sound.{Sound}
 use Rattle.table.proofs.SeatHands.{how-many, hand-is}
-use Rattle.agreement.proofs.Groups.{not-stake, not-deal, not-close}
+use Rattle.agreement.proofs.Groups.{not-stake, not-side, not-deal, not-close}
 use Rattle.agreement.proofs.Events.{Events, ending}
 use Rattle.decisions_spec.specs.Place.{placeOf, withPlace, endedBy}
 use Rattle.decisions_spec.specs.Turn.{waitingPlaceOf, endEffect}
@@ -56,7 +56,7 @@ module _ (t : Table) (e : Entry) (j p code : ℕ) (d : Ends t e j p code) where
 
   lays-none : (S : ℕ) → lays j S e ≡ 0
   unfolding lays
-  lays-none S = simp (not-stake e (d .guest .among) refl, plains .0, plains .2, plains .3, of-seat e j (d .guest))
+  lays-none S = simp (not-stake e (d .guest .among) refl, not-side e (d .guest .among) refl, plains .0, plains .2, plains .3, of-seat e j (d .guest))
 
   takes-none : (staked : ℕ) (c : Cards) → callTakes (t .options) staked c e ≡ 0
   unfolding callTakes
@@ -85,8 +85,10 @@ module _ (t : Table) (e : Entry) (j p code : ℕ) (d : Ends t e j p code) where
       record {
         guest = d .guest;
         no-insure = plains .0;
+        no-split = plains .3;
         same-stake = refl;
         same-insurance = refl;
+        same-sides = refl;
         full = w .seat .shaped .twenty-cards p (omega arith);
         sound-hand = record { two-cards = was .two-cards; twenty-cards = was .twenty-cards; played = was .played; origin = was .origin; ended = d .fits };
         turn-is = turn;

@@ -59,18 +59,20 @@ module _ (t : Table) (at : At) (n : ℕ) (order : List ℕ) (sound : Sound t) (a
   decided : Staked t (at .seat) → Decided t (entry (Insure at n) order) (at .seat) (t .tray) (insured-seat t (at .seat) n) (t .shoe) 0 n 0
   unfolding lays wins callTakes sumOf prizes
   decided seat =
-      let shaped : ShapedSeat (insured-seat t (at .seat) n) = record { four-places = seat .shaped .four-places; twenty-cards = seat .shaped .twenty-cards } in
+      let shaped : ShapedSeat (insured-seat t (at .seat) n) = record { four-places = seat .shaped .four-places; four-sides = seat .shaped .four-sides; three-first = seat .shaped .three-first; twenty-cards = seat .shaped .twenty-cards } in
       record {
         guest = record { among = refl; seat-is = refl };
         acting = a .acting;
         shaped-seat = shaped;
         same-stake = refl;
+        same-sides = refl;
         insured = λ some. record { in-round = a .acting .dealt; ace-up = a .ace; staked = a .acting .staked; permitted = a .permitted };
         has-hands = seat .some;
         playing = record { in-round = seat .playing .in-round; staked = a .acting .staked; within = seat .playing .within; each = seat .playing .each };
         insurance-is = refl;
         turn-is = λ decides. absurd (true≢false (sym decides));
         hands-are = λ c agree. refl;
+        first-is = λ c agree. refl;
         events = no-event (entry (Insure at n) order) (hands (seatAt t (at .seat))) refl;
         lays-it = simp (eq-eqb (at .seat) (at .seat) refl);
         wins-it = λ c agree. simp and-false;

@@ -1,12 +1,13 @@
--- An accepted split: two hands for the pair, each of one of its cards and a drawn one, and the stake again for the new hand. Two cards are no prize hand.
+-- An accepted split: two hands for the pair, each of one of its cards and a drawn one, and the stake again for the new hand. Two cards are no prize hand. The first
+-- split of a seat keeps the first card that it draws, as the history does.
 use mathlib.Core.Path.{_≡_, refl, sym, _∙_, ap, ap₂}
-use mathlib.Core.Bool.{cond, and-false, and-eq-true-iff}
-use mathlib.Core.List.{List, [], _∷_}
+use mathlib.Core.Bool.{Bool, true, false, cond, and-false, and-eq-true-iff}
+use mathlib.Core.List.{List, [], _∷_, _++_}
 use Prim.Native.Nat.{ℕ, _+_, _-_, _≤_, _<_}
 use native.Mathlib.Omega.{arith}
 use lib.Dec.{eqb}
-use lib.ListN.{length, getD, take}
-use lib.Seq.{take-all}
+use lib.ListN.{length, getD, take, set, length-set}
+use lib.Seq.{take-all, take-suc-set}
 use borrow.Author.Tests.{leb-false, ltb-false, eqb-true, eq-eqb, ne-eqb, not-false}
 use Rattle.lists.specs.Sum.{sumOf}
 use Rattle.lists.specs.Tests.{allOf}
@@ -37,7 +38,7 @@ use Rattle.table.specs.declared.Money.{Money}
 use Rattle.table.specs.declared.Seat.{Seat}
 use Rattle.table.specs.declared.Table.{Table}
 use Rattle.table.specs.Guest.{withPurse}
-use Rattle.table.specs.Seat.{purse, stake, hands, laid, prizes, seatCards}
+use Rattle.table.specs.Seat.{purse, stake, hands, firstCards, laid, prizes, seatCards}
 use Rattle.table.specs.Shoe.{withDrawn}
 use Rattle.table.specs.Table.{seatAt, up, cardsLeft, tableShoe}
 use Rattle.table.specs.Broken.{soundOrigin, soundEnding}
@@ -49,9 +50,9 @@ use Rattle.agreement.proofs.Events.{Events, drawing}
 use Rattle.agreement.specs.Aids.Agrees.{CardsAgree}
 use Rattle.decisions_spec.specs.Turn.{waitingPlaceOf, waitingHandOf}
 use Rattle.decisions_spec.specs.Card.{cardAhead}
-use Rattle.decisions_spec.specs.Split.{splitConditions, pairCardOf, splitHand, splitEffect}
+use Rattle.decisions_spec.specs.Split.{splitConditions, pairCardOf, splitHand, splitFirst, splitEffect}
 use Rattle.decisions_spec.proofs.Acting.{Waiting, still-insured}
-use Rattle.decisions_spec.proofs.Decision.{makes, Decided, draws-some, Decision}
+use Rattle.decisions_spec.proofs.Decision.{makes, keeps, Decided, draws-some, Decision}
 use Rattle.decisions_spec.proofs.Turn.{TurnAccepted, turn-accepted, turn-waiting}
 use Rattle.decisions_spec.proofs.Card.{next-card}
 
@@ -128,8 +129,11 @@ module _ (t : Table) (at : At) (order : List ℕ) (shaped : Shaped t) (sound : S
   abbrev new-money : Money
   new-money = withPurse (s .money) (purse s - stake s)
 
+  abbrev first-now : List ℕ
+  first-now = splitFirst s (cardAhead t 0)
+
   abbrev now : Seat
-  now = with-two s new-money p parent new
+  now = with-two s new-money p parent new first-now
 
   many : length (hands s) ≡ s .hands .many
   many = how-many s p (w .seat .shaped) (w .seat .few) (w .here)
@@ -140,11 +144,20 @@ module _ (t : Table) (at : At) (order : List ℕ) (shaped : Shaped t) (sound : S
   beside : 2 ≤ s .hands .many + 1
   beside = omega (arith, w .here)
 
+  first-three : length first-now ≡ 3
+  first-three = go (eqb (s .hands .many) 1)
+    where
+      go : (b : Bool) → length (cond b (set (s .first) 2 (cardAhead t 0)) (s .first)) ≡ 3
+      go true = length-set (s .first) 2 (cardAhead t 0) ∙ w .seat .shaped .three-first
+      go false = w .seat .shaped .three-first
+
   now-shaped : ShapedSeat now
-  now-shaped = shaped-two s p (w .seat .shaped) (w .seat .few) (w .here) new-money parent new (split-full kept-first drawn-first) (split-full kept-second drawn-second)
+  now-shaped =
+      shaped-two s p (w .seat .shaped) (w .seat .few) (w .here) new-money parent new first-now (split-full kept-first drawn-first) (split-full kept-second drawn-second)
+      (w .seat .shaped .four-sides) first-three
 
   over-hands : (f : Played → ℕ) → sumOf f (hands now) + f (playedOf (waitingHandOf t (at .seat))) ≡ sumOf f (hands s) + f (playedOf parent) + f (playedOf new)
-  over-hands f = sum-two s p (w .seat .shaped) (w .seat .few) (w .here) new-money parent new fewer f
+  over-hands f = sum-two s p (w .seat .shaped) (w .seat .few) (w .here) new-money parent new first-now fewer f
 
   now-laid : laid now ≡ laid s + stake s
   now-laid =
@@ -191,10 +204,23 @@ module _ (t : Table) (at : At) (order : List ℕ) (shaped : Shaped t) (sound : S
       let hs = hands s in
       let old = playedOf (waitingHandOf t (at .seat)) in
       let both : Played → ℕ → ℕ → List Played = λ h a b. two-for hs p (splitOne (getD (h .cards) 0 0) a) (splitOne (getD (h .cards) 1 0) b) in
-      hands-two s p (w .seat .shaped) (w .seat .few) (w .here) new-money parent new fewer
+      hands-two s p (w .seat .shaped) (w .seat .few) (w .here) new-money parent new first-now fewer
       ∙ ap₂ (two-for hs p) (split-played kept-first drawn-first) (split-played kept-second drawn-second)
       ∙ ap₂ (both old) (sym (next-card t c 0 agree (omega (arith, a .left)))) (sym (next-card t c 1 agree (omega (arith, a .left))))
       ∙ ap (λ (h : Played). both h (nextCard c 0) (nextCard c 1)) (sym (hand-is s p (w .seat .shaped) (w .seat .few) (w .here)))
+
+  -- the seat has two hands or more now, so all three first cards count
+  now-first : (c : Cards) → CardsAgree c t → firstCards now ≡ keeps (hands s) (firstCards s) c (entry (Split at) order)
+  now-first c agree =
+      let several : eqb (length (hands now)) 1 ≡ false = ne-eqb (length (hands now)) 1 (λ one. omega (arith, many-hands (now .hands) (now-shaped .four-places), w .here)) in
+      ap (λ (b : Bool). take (cond b 2 3) first-now) several
+      ∙ ap (λ (n : ℕ). take 3 (cond (eqb n 1) (set (s .first) 2 (cardAhead t 0)) (s .first))) (sym many)
+      ∙ go (eqb (length (hands s)) 1)
+      ∙ ap (λ (card : ℕ). cond (eqb (length (hands s)) 1) (firstCards s ++ (card ∷ [])) (firstCards s)) (sym (next-card t c 0 agree (omega (arith, a .left))))
+    where
+      go : (b : Bool) → take 3 (cond b (set (s .first) 2 (cardAhead t 0)) (s .first)) ≡ cond b (take (cond b 2 3) (s .first) ++ (cardAhead t 0 ∷ [])) (take (cond b 2 3) (s .first))
+      go true = take-suc-set (s .first) 2 (cardAhead t 0) (omega (arith, w .seat .shaped .three-first))
+      go false = refl
 
   -- there are two hands or more
   split-events : Events (entry (Split at) order) (hands s) (hands now)
@@ -208,6 +234,7 @@ module _ (t : Table) (at : At) (order : List ℕ) (shaped : Shaped t) (sound : S
         acting = w .seat .acting;
         shaped-seat = now-shaped;
         same-stake = refl;
+        same-sides = refl;
         insured = still-insured t shaped sound (at .seat) (w .seat .acting) now refl refl;
         has-hands = omega arith;
         playing =
@@ -216,12 +243,13 @@ module _ (t : Table) (at : At) (order : List ℕ) (shaped : Shaped t) (sound : S
               staked = w .seat .acting .staked;
               within = omega (arith, many, a .room);
               each =
-                  each-two s p (w .seat .shaped) (w .seat .few) (w .here) new-money parent new (t .options) (up t) fewer (w .seat .playing .each)
+                  each-two s p (w .seat .shaped) (w .seat .few) (w .here) new-money parent new first-now (t .options) (up t) fewer (w .seat .playing .each)
                   (split-sound kept-first drawn-first (t .options) (up t) (s .hands .many + 1) beside) (split-sound kept-second drawn-second (t .options) (up t) (s .hands .many + 1) beside);
             };
         insurance-is = refl;
         turn-is = λ decides in-turn. a .turn;
         hands-are = now-hands;
+        first-is = now-first;
         events = split-events;
         lays-it = simp (eq-eqb (at .seat) (at .seat) refl);
         wins-it = λ c agree. simp and-false;

@@ -29,5 +29,5 @@ cardEffect more code t j =
     let won = prize (t .options) (stake s) (playedOf h) in
     makeTable (t .options) (t .tray - won)
     (set (t .seats) j
-    (makeSeat (withPurse (s .money) (purse s - more + won)) (record { places = set (s .hands .places) (waitingPlaceOf t j) h; many = s .hands .many })))
+    (makeSeat (withPurse (s .money) (purse s - more + won)) (record { places = set (s .hands .places) (waitingPlaceOf t j) h; many = s .hands .many }) (s .first)))
     (t .bank) (withDrawn (t .shoe) 1)

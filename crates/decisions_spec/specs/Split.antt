@@ -3,7 +3,7 @@
 use mathlib.Core.Bool.{not, cond}
 use mathlib.Core.List.{List, [], _∷_, _++_}
 use Prim.Native.Nat.{ℕ, suc, _+_, _-_}
-use lib.Dec.{leb, ltb}
+use lib.Dec.{leb, ltb, eqb}
 use lib.ListN.{length, getD, take, drop, set}
 use Rattle.call.specs.Refusal.{Condition}
 use Rattle.cards.specs.Card.{isAce}
@@ -11,6 +11,7 @@ use Rattle.cards.specs.Hand.{cardsOf, emptyHand, withCard}
 use Rattle.cards.specs.Pair.{isPair}
 use Rattle.rules.specs.declared.seat_hand.SeatHand.{SeatHand}
 use Rattle.rules.specs.SeatHand.{split, splitAces, notEnded}
+use Rattle.table.specs.declared.Seat.{Seat}
 use Rattle.table.specs.declared.Table.{Table}
 use Rattle.table.specs.Guest.{withPurse}
 use Rattle.table.specs.Seat.{makeSeat, purse, stake, hands}
@@ -42,6 +43,10 @@ splitHand kept card =
 abbrev pub splitPlaces : List SeatHand → ℕ → SeatHand → SeatHand → List SeatHand
 splitPlaces places p parent new = take 4 (take p places ++ parent ∷ new ∷ drop (suc p) places)
 
+-- The first card that the first split draws is kept for the side stakes; later splits change nothing (request 2.6).
+abbrev pub splitFirst : Seat → ℕ → List ℕ
+splitFirst s card = cond (eqb (s .hands .many) 1) (set (s .first) 2 card) (s .first)
+
 unfoldable pub splitEffect : Table → ℕ → Table
 splitEffect t j =
     let s = seatAt t j in
@@ -50,5 +55,6 @@ splitEffect t j =
     makeTable (t .options) (t .tray)
     (set (t .seats) j
     (makeSeat (withPurse (s .money) (purse s - stake s))
-    (record { places = splitPlaces (s .hands .places) (waitingPlaceOf t j) parent new; many = s .hands .many + 1 })))
+    (record { places = splitPlaces (s .hands .places) (waitingPlaceOf t j) parent new; many = s .hands .many + 1 })
+    (splitFirst s (cardAhead t 0))))
     (t .bank) (withDrawn (t .shoe) 2)

@@ -11,11 +11,12 @@ use state::seat::seat_at;
 use table::Seat;
 use table::Table;
 
-// The purse, the stake and the insurance; the layout money and the prizes in this round; how many hands.
+// The purse, the stake, the insurance and the side stakes by kind; the layout money and the prizes in this round; how many hands.
 pub struct SeatShown {
     pub purse: u64,
     pub stake: u32,
     pub insurance: u32,
+    pub sides: [u32; 4],
     pub layout: u64,
     pub prizes: u64,
     pub hands: usize,
@@ -25,11 +26,13 @@ fn seat_values(o: Options, s: Seat) -> SeatShown
     ensures { λ r. ⌜ r ≡ seatValues o s ⌝ }
 {
     let money = s.money;
+    let sides = money.sides;
     let hands = s.hands;
     SeatShown {
         purse: money.purse,
         stake: money.stake,
         insurance: money.insurance,
+        sides,
         layout: laid(s),
         prizes: prizes(o, s),
         hands: used(hands),

@@ -7,7 +7,7 @@ ghost use lib.ListN.{getD};
 ghost use Rattle.cards.specs.Hand.{cardsOf};
 ghost use Rattle.call.specs.Refusal.{first as firstOf};
 ghost use Rattle.answer.specs.Outcome.{outcome};
-ghost use Rattle.decisions_spec.specs.Split.{splitConditions, splitEffect, splitHand, splitPlaces};
+ghost use Rattle.decisions_spec.specs.Split.{splitConditions, splitEffect, splitHand, splitPlaces, splitFirst};
 ghost use Rattle.draw.specs.Aids.Splits.{splitSeat, Pays, Splits};
 ghost use Rattle.table.specs.Broken.{broken};
 use answer::outcome::Outcome;
@@ -90,6 +90,18 @@ fn split_places(places: [SeatHand; 4], p: usize, parent: SeatHand, new: SeatHand
     [first, second, third, parent]
 }
 
+// The first cards that side stakes are paid by: the first split of a seat adds the first card that it draws.
+fn first_of(s: Seat, card: u8) -> [u8; 3]
+    ensures { λ r. ⌜ r ≡ splitFirst s card ⌝ }
+{
+    let hands = s.hands;
+    let mut next = s.first;
+    if hands.many == 1 {
+        next[2] = card;
+    }
+    next
+}
+
 // The seat with the hand whose turn it is split, the stake laid for the new hand.
 fn split_seat(o: Options, card: u8, s: Seat, first: u8, second: u8) -> Seat
     requires { ⌜ Pays o card s ⌝ }
@@ -108,6 +120,8 @@ fn split_seat(o: Options, card: u8, s: Seat, first: u8, second: u8) -> Seat
     let more = SeatHands { places, many };
     let mut next = with_purse(s, money.purse - (money.stake as u64));
     next.hands = more;
+    let kept = first_of(s, first);
+    next.first = kept;
     next
 }
 

@@ -5,7 +5,7 @@ use mathlib.Core.List.{List}
 use Prim.Native.Nat.{ℕ}
 use Rattle.lists.specs.Tests.{allOf}
 use Rattle.call.specs.declared.Call.{Call}
-use Rattle.call.specs.declared.Call.the-variants.{Fill, Credit, Buy, Cash, Stake, Deal, Insure, Stand, Draw, Double, Split, Surrender, Even, Five, Close, Void, Load}
+use Rattle.call.specs.declared.Call.the-variants.{Fill, Credit, Buy, Cash, Stake, Deal, Insure, Stand, Draw, Double, Split, Surrender, Even, Five, Close, Void, Load, Side}
 use Rattle.call.specs.Refusal.{first}
 use Rattle.options.specs.Ranges.{ranges, inRange}
 use Rattle.table.specs.declared.Table.{Table}
@@ -17,6 +17,7 @@ use Rattle.answer.specs.Conditions.{seatConditions}
 use Rattle.cashier_spec.specs.Buy.{buyConditions}
 use Rattle.cashier_spec.specs.Cash.{cashConditions}
 use Rattle.cashier_spec.specs.Load.{loadConditions}
+use Rattle.cashier_spec.specs.Side.{sideConditions}
 use Rattle.cashier_spec.specs.Stake.{stakeConditions}
 use Rattle.deal_spec.specs.Deal.{dealConditions}
 use Rattle.close_spec.specs.Void.{voidConditions}
@@ -33,7 +34,7 @@ use Rattle.answer.specs.Reply.{replyBy}
 use Rattle.engine.specs.Step.{number, step}
 
 pub broken-one : (t : Table) → broken t ≡ true → (c : Call) (order : List ℕ) → number t c order ≡ 1
-unfolding number first fillConditions creditConditions seatConditions buyConditions cashConditions stakeConditions dealConditions insureConditions turnConditions drawConditions doubleConditions splitConditions surrenderConditions evenConditions fiveConditions closeConditions voidConditions loadConditions step replyBy
+unfolding number first fillConditions creditConditions seatConditions buyConditions cashConditions stakeConditions sideConditions dealConditions insureConditions turnConditions drawConditions doubleConditions splitConditions surrenderConditions evenConditions fiveConditions closeConditions voidConditions loadConditions step replyBy
 broken-one t b (Fill n) order = simp b
 broken-one t b (Credit n) order = simp b
 broken-one t b (Buy at n) order = simp b
@@ -51,6 +52,7 @@ broken-one t b (Five at) order = simp b
 broken-one t b Close order = simp b
 broken-one t b Void order = simp b
 broken-one t b Load order = simp b
+broken-one t b (Side at k n) order = simp b
 
 pub empty-broken : broken emptyTable ≡ true
 unfolding sound inRange ranges allOf

@@ -21,12 +21,12 @@ use Rattle.rules.specs.Permits.{takesCards, permitsDouble, permitsSplit}
 use Rattle.payment.specs.Wager.{wager}
 use Rattle.payment.specs.HandPay.{handBack, againstBank, againstNatural, byTotals}
 use Rattle.payment.specs.Insurance.{insurancePay}
-use Rattle.payment.specs.Pays.{insurancePays, handPays, paysOf}
+use Rattle.payment.specs.Pays.{insurancePays, sideDue, sidePays, handPays, paysOf}
 use Rattle.payment.specs.Prize.{prize}
 use Rattle.table.specs.Seat.{laid, prizes}
 use Rattle.table.specs.Shoe.{validOrder}
 use Rattle.options.specs.Permitted.{stakePermitted}
-use Rattle.table.specs.Broken.{soundOrigin, soundDouble, soundSurrender, soundEnding, soundHand, soundNumber, soundStake, soundInsurance, soundHands, soundPrizes, soundSeat, soundShoe, soundDiscards, soundFaces, soundBank, soundMoney, sound}
+use Rattle.table.specs.Broken.{soundOrigin, soundDouble, soundSurrender, soundEnding, soundHand, soundNumber, soundStake, soundInsurance, soundSides, soundHands, soundPrizes, soundSeat, soundShoe, soundDiscards, soundFaces, soundBank, soundMoney, sound}
 use Rattle.cashier_spec.specs.Opening.{openConditions, openNumber, opened}
 use Rattle.cashier_spec.specs.Fill.{fillConditions, fillEffect}
 use Rattle.answer.specs.Conditions.{seatConditions}
@@ -47,5 +47,5 @@ use Rattle.engine.specs.Session.{at, row, rows}
 use Rattle.engine.specs.FullCover.{threeDecks, sevensFirst, rest, fullOrder, fullCalls, FullCover}
 
 pub full-cover : FullCover
-unfolding threeDecks sevensFirst rest fullOrder at row rows fullCalls sumOf anyOf allOf firstPlace allBelow flat first pointsOf withCard total couldBePlayed isNatural isPair allSevens isPrizeHand ranges inRange natural hasTwoCards evenOpen fiveOpen isTwoAces acesWait cardsWait waits mustDraw takesCards permitsDouble permitsSplit wager handBack againstBank againstNatural byTotals insurancePay insurancePays handPays paysOf prize laid prizes validOrder stakePermitted soundOrigin soundDouble soundSurrender soundEnding soundHand soundNumber soundStake soundInsurance soundHands soundPrizes soundSeat soundShoe soundDiscards soundFaces soundBank soundMoney sound openConditions openNumber opened fillConditions fillEffect seatConditions buyConditions buyEffect stakeConditions stakeEffect burnAtDeal pass dealTakes dealConditions dealtSeats upCard dealEffect turnConditions cardEffect doubleConditions splitConditions splitEffect bankBurn bankTakes bankAtClose closeTakes closeConditions seatBack closeEffect number next step replyBy
+unfolding threeDecks sevensFirst rest fullOrder at row rows fullCalls sumOf anyOf allOf firstPlace allBelow flat first pointsOf withCard total couldBePlayed isNatural isPair allSevens isPrizeHand ranges inRange natural hasTwoCards evenOpen fiveOpen isTwoAces acesWait cardsWait waits mustDraw takesCards permitsDouble permitsSplit wager handBack againstBank againstNatural byTotals insurancePay insurancePays sideDue sidePays handPays paysOf prize laid prizes validOrder stakePermitted soundOrigin soundDouble soundSurrender soundEnding soundHand soundNumber soundStake soundInsurance soundSides soundHands soundPrizes soundSeat soundShoe soundDiscards soundFaces soundBank soundMoney sound openConditions openNumber opened fillConditions fillEffect seatConditions buyConditions buyEffect stakeConditions stakeEffect burnAtDeal pass dealTakes dealConditions dealtSeats upCard dealEffect turnConditions cardEffect doubleConditions splitConditions splitEffect bankBurn bankTakes bankAtClose closeTakes closeConditions seatBack closeEffect number next step replyBy
 full-cover = record { opens = refl; plays = refl }

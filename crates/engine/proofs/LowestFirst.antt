@@ -8,7 +8,7 @@ use borrow.Author.Tests.{ltb-true}
 use Rattle.lists.specs.Tests.{anyOf, allOf, firstPlace}
 use Rattle.lists.proofs.Tests.{or-eq-false}
 use Rattle.call.specs.declared.Call.{Call}
-use Rattle.call.specs.declared.Call.the-variants.{Fill, Credit, Buy, Cash, Stake, Deal, Insure, Stand, Draw, Double, Split, Surrender, Even, Five, Close, Void, Load}
+use Rattle.call.specs.declared.Call.the-variants.{Fill, Credit, Buy, Cash, Stake, Deal, Insure, Stand, Draw, Double, Split, Surrender, Even, Five, Close, Void, Load, Side}
 use Rattle.call.specs.Refusal.{Condition, first, holds}
 use Rattle.call.proofs.Refusals.{first-says, first-stands, accepted-head, accepted-tail}
 use Rattle.table.specs.declared.Table.{Table}
@@ -18,6 +18,7 @@ use Rattle.answer.specs.Conditions.{seatConditions}
 use Rattle.cashier_spec.specs.Buy.{buyConditions}
 use Rattle.cashier_spec.specs.Cash.{cashConditions}
 use Rattle.cashier_spec.specs.Load.{loadConditions}
+use Rattle.cashier_spec.specs.Side.{sideConditions}
 use Rattle.cashier_spec.specs.Stake.{stakeConditions}
 use Rattle.deal_spec.specs.Deal.{dealConditions}
 use Rattle.close_spec.specs.Void.{voidConditions}
@@ -36,7 +37,7 @@ use Rattle.engine.specs.LowestFirst.{inSequence, LowestFirst}
 
 -- no number is 0
 numbers : (t : Table) (c : Call) (order : List ℕ) → allOf (λ c. ltb 0 (c .0)) (conditions t c order) ≡ true
-unfolding allOf fillConditions creditConditions seatConditions buyConditions cashConditions stakeConditions dealConditions insureConditions turnConditions drawConditions doubleConditions splitConditions surrenderConditions evenConditions fiveConditions closeConditions voidConditions loadConditions
+unfolding allOf fillConditions creditConditions seatConditions buyConditions cashConditions stakeConditions sideConditions dealConditions insureConditions turnConditions drawConditions doubleConditions splitConditions surrenderConditions evenConditions fiveConditions closeConditions voidConditions loadConditions
 numbers t (Fill n) order = refl
 numbers t (Credit n) order = refl
 numbers t (Buy at n) order = refl
@@ -54,9 +55,10 @@ numbers t (Five at) order = refl
 numbers t Close order = refl
 numbers t Void order = refl
 numbers t Load order = refl
+numbers t (Side at k n) order = refl
 
 sequenced : (t : Table) (c : Call) (order : List ℕ) → inSequence 0 (conditions t c order) ≡ true
-unfolding inSequence firstPlace fillConditions creditConditions seatConditions buyConditions cashConditions stakeConditions dealConditions insureConditions turnConditions drawConditions doubleConditions splitConditions surrenderConditions evenConditions fiveConditions closeConditions voidConditions loadConditions
+unfolding inSequence firstPlace fillConditions creditConditions seatConditions buyConditions cashConditions stakeConditions sideConditions dealConditions insureConditions turnConditions drawConditions doubleConditions splitConditions surrenderConditions evenConditions fiveConditions closeConditions voidConditions loadConditions
 sequenced t (Fill n) order = refl
 sequenced t (Credit n) order = refl
 sequenced t (Buy at n) order = refl
@@ -74,6 +76,7 @@ sequenced t (Five at) order = refl
 sequenced t Close order = refl
 sequenced t Void order = refl
 sequenced t Load order = refl
+sequenced t (Side at k n) order = refl
 
 -- the answer is 0 exactly if none holds
 none-of : (cs : List Condition) → allOf (λ c. ltb 0 (c .0)) cs ≡ true → first cs ≡ 0 → anyOf holds cs ≡ false

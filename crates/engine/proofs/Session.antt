@@ -23,12 +23,12 @@ use Rattle.rules.specs.Drew.{seatDrew}
 use Rattle.payment.specs.Wager.{wager}
 use Rattle.payment.specs.HandPay.{handBack, againstBank, againstNatural, byTotals}
 use Rattle.payment.specs.Insurance.{insurancePay}
-use Rattle.payment.specs.Pays.{insurancePays, handPays, paysOf}
+use Rattle.payment.specs.Pays.{insurancePays, sideDue, sidePays, handPays, paysOf}
 use Rattle.payment.specs.Prize.{prize}
 use Rattle.table.specs.Seat.{laid, prizes}
 use Rattle.table.specs.Shoe.{validOrder}
 use Rattle.options.specs.Permitted.{stakePermitted, insurancePermitted}
-use Rattle.table.specs.Broken.{soundOrigin, soundDouble, soundSurrender, soundEnding, soundHand, soundNumber, soundStake, soundInsurance, soundHands, soundPrizes, soundSeat, soundShoe, soundDiscards, soundFaces, soundBank, soundMoney, sound}
+use Rattle.table.specs.Broken.{soundOrigin, soundDouble, soundSurrender, soundEnding, soundHand, soundNumber, soundStake, soundInsurance, soundSides, soundHands, soundPrizes, soundSeat, soundShoe, soundDiscards, soundFaces, soundBank, soundMoney, sound}
 use Rattle.cashier_spec.specs.Opening.{openConditions, openNumber, opened}
 use Rattle.cashier_spec.specs.Fill.{fillConditions, fillEffect}
 use Rattle.answer.specs.Conditions.{seatConditions}
@@ -50,5 +50,5 @@ use Rattle.engine.specs.Step.{number, next, step}
 use Rattle.engine.specs.Session.{house, others, marked, order, at, row, rows, calls, Session}
 
 pub session : Session
-unfolding house others marked order at row rows calls sumOf anyOf allOf firstPlace allBelow flat first pointsOf withCard total couldBePlayed isNatural isPair allSevens suitedSixSevenEight isPrizeHand ranges inRange natural hasTwoCards evenOpen fiveOpen isTwoAces acesWait cardsWait waits mustDraw permitsStand takesCards permitsDraw permitsDouble permitsSplit permitsEven permitsFive seatDrew permitsSurrender wager handBack againstBank againstNatural byTotals insurancePay insurancePays handPays paysOf prize laid prizes validOrder stakePermitted insurancePermitted soundOrigin soundDouble soundSurrender soundEnding soundHand soundNumber soundStake soundInsurance soundHands soundPrizes soundSeat soundShoe soundDiscards soundFaces soundBank soundMoney sound openConditions openNumber opened fillConditions fillEffect seatConditions buyConditions buyEffect stakeConditions stakeEffect burnAtDeal pass dealTakes dealConditions dealtSeats upCard dealEffect anyDrew anyDecided insureConditions insureEffect turnConditions endEffect cardEffect doubleConditions splitConditions splitEffect bankBurn bankTakes bankAtClose closeTakes closeConditions seatBack closeEffect number next step replyBy
+unfolding house others marked order at row rows calls sumOf anyOf allOf firstPlace allBelow flat first pointsOf withCard total couldBePlayed isNatural isPair allSevens suitedSixSevenEight isPrizeHand ranges inRange natural hasTwoCards evenOpen fiveOpen isTwoAces acesWait cardsWait waits mustDraw permitsStand takesCards permitsDraw permitsDouble permitsSplit permitsEven permitsFive seatDrew permitsSurrender wager handBack againstBank againstNatural byTotals insurancePay insurancePays sideDue sidePays handPays paysOf prize laid prizes validOrder stakePermitted insurancePermitted soundOrigin soundDouble soundSurrender soundEnding soundHand soundNumber soundStake soundInsurance soundSides soundHands soundPrizes soundSeat soundShoe soundDiscards soundFaces soundBank soundMoney sound openConditions openNumber opened fillConditions fillEffect seatConditions buyConditions buyEffect stakeConditions stakeEffect burnAtDeal pass dealTakes dealConditions dealtSeats upCard dealEffect anyDrew anyDecided insureConditions insureEffect turnConditions endEffect cardEffect doubleConditions splitConditions splitEffect bankBurn bankTakes bankAtClose closeTakes closeConditions seatBack closeEffect number next step replyBy
 session = record { opens = refl; plays = refl }

@@ -1,4 +1,4 @@
--- One step over all seventeen calls, runs of lists of calls, and the claims about the marked session and about a round that takes the whole cover.
+-- One step over all calls, runs of lists of calls, and the claims about the marked session and about a round that takes the whole cover.
 pub mod Scores
 pub mod Step
 pub mod Run

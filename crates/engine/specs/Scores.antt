@@ -3,7 +3,7 @@
 use mathlib.Core.List.{List, [], _∷_, map}
 use Prim.Native.Nat.{ℕ, suc}
 use Rattle.call.specs.declared.Call.{Call}
-use Rattle.call.specs.declared.Call.the-variants.{Fill, Credit, Buy, Cash, Stake, Deal, Insure, Stand, Draw, Double, Split, Surrender, Even, Five, Close, Void, Load}
+use Rattle.call.specs.declared.Call.the-variants.{Fill, Credit, Buy, Cash, Stake, Deal, Insure, Stand, Draw, Double, Split, Surrender, Even, Five, Close, Void, Load, Side}
 use Rattle.lists.specs.Tests.{those}
 use Rattle.cards.specs.declared.score.HandScore.{HandScore}
 use Rattle.cards.specs.Hand.{cardsOf}
@@ -48,3 +48,4 @@ handScores t (Five at) after = []
 handScores t Close after = []
 handScores t Void after = []
 handScores t Load after = []
+handScores t (Side at k n) after = []

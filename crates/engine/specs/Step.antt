@@ -1,10 +1,10 @@
--- Document 01, "The seventeen calls": one step. The number is the first whose condition holds; at 0 the effect is the next table, else the table stays.
+-- Document 01, "The seventeen calls", and request 2.6: one step. The number is the first whose condition holds; at 0 the effect is the next table, else the table stays.
 use mathlib.Core.Bool.{cond}
 use mathlib.Core.List.{List}
 use Prim.Native.Nat.{ℕ}
 use lib.Dec.{eqb}
 use Rattle.call.specs.declared.Call.{Call}
-use Rattle.call.specs.declared.Call.the-variants.{Fill, Credit, Buy, Cash, Stake, Deal, Insure, Stand, Draw, Double, Split, Surrender, Even, Five, Close, Void, Load}
+use Rattle.call.specs.declared.Call.the-variants.{Fill, Credit, Buy, Cash, Stake, Deal, Insure, Stand, Draw, Double, Split, Surrender, Even, Five, Close, Void, Load, Side}
 use Rattle.call.specs.Refusal.{Condition}
 use Rattle.call.specs.Call.{kind}
 use Rattle.call.specs.Answer.{Shown, scored}
@@ -16,6 +16,7 @@ use Rattle.cashier_spec.specs.Buy.{buyConditions, buyEffect}
 use Rattle.cashier_spec.specs.Cash.{cashConditions, cashEffect}
 use Rattle.cashier_spec.specs.Load.{loadConditions, loadEffect}
 use Rattle.cashier_spec.specs.Stake.{stakeConditions, stakeEffect}
+use Rattle.cashier_spec.specs.Side.{sideConditions, sideEffect}
 use Rattle.deal_spec.specs.Deal.{dealConditions, dealEffect}
 use Rattle.close_spec.specs.Void.{voidConditions, voidEffect}
 use Rattle.decisions_spec.specs.Insure.{insureConditions, insureEffect}
@@ -48,6 +49,7 @@ conditions t (Five at) order = fiveConditions t (at .seat)
 conditions t Close order = closeConditions t
 conditions t Void order = voidConditions t
 conditions t Load order = loadConditions t order
+conditions t (Side at k n) order = sideConditions t (at .seat) k n
 
 -- What an accepted call does.
 abbrev pub effect : Table → Call → List ℕ → Table
@@ -68,6 +70,7 @@ effect t (Five at) order = fiveEffect t (at .seat)
 effect t Close order = closeEffect t
 effect t Void order = voidEffect t
 effect t Load order = loadEffect t order
+effect t (Side at k n) order = sideEffect t (at .seat) k n
 
 -- What an accepted call shows, `after` being the table that it leaves: close the bank's cards and score and the pay lines, every other call the scores of its
 -- hands.

@@ -1,4 +1,4 @@
-// One step over all seventeen calls: it takes the enum apart. Beside the call the caller lends the order that a load reads, which every other call ignores, and
+// One step over all eighteen calls: it takes the enum apart. Beside the call the caller lends the order that a load reads, which every other call ignores, and
 // two arrays for the names and nets of the pay lines, into which only an accepted close writes.
 mod scores;
 
@@ -49,6 +49,7 @@ pub fn step_checked(
         Call::Close => return close(t, names, nets),
         Call::Void => close::void::void(t),
         Call::Load => cashier::load::load(t, order),
+        Call::Side(at, kind, n) => cashier::side::side(t, at, kind, n),
     };
     scored_reply(o, scores_of(t, c, o))
 }

@@ -1,8 +1,8 @@
 -- Document 01, "The history": what it reads, the accepted calls with their seats and amounts, each with the order that was lent beside it. Newest first.
-use mathlib.Core.Bool.{Bool, _||_}
+use mathlib.Core.Bool.{Bool, _&&_, _||_}
 use mathlib.Core.List.{List}
-use Prim.Native.Nat.{ℕ}
-use lib.Dec.{eqb}
+use Prim.Native.Nat.{ℕ, _+_}
+use lib.Dec.{leb, eqb}
 use Rattle.call.specs.declared.Call.{Call}
 use Rattle.call.specs.Call.{kind, seat, amount}
 
@@ -67,6 +67,13 @@ isVoid e = isKind 16 e
 
 abbrev pub isLoad : Entry → Bool
 isLoad e = isKind 17 e
+
+-- A side stake of kind k (request 2.6), and one of any kind.
+abbrev pub isSideOf : ℕ → Entry → Bool
+isSideOf k e = isKind (17 + k) e
+
+abbrev pub isSide : Entry → Bool
+isSide e = leb 18 (kind (e .call)) && leb (kind (e .call)) 21
 
 -- The decisions that draw a card, and all seven.
 abbrev pub isDrawing : Entry → Bool

@@ -1,10 +1,10 @@
 -- Document 01, "The history", rounds: deal gives each seat that staked in the round one hand. A decision in turn goes to the hand whose turn it is, surrender to the
 -- seat's only hand. Split moves the second card to the new hand. A hand keeps its cards, where it comes from and how it ended; W follows.
-use mathlib.Core.Bool.{cond}
+use mathlib.Core.Bool.{cond, _&&_}
 use mathlib.Core.List.{List, [], _∷_, _++_}
 use Prim.Native.Nat.{ℕ, suc, _+_}
 use lib.Dec.{ltb, eqb}
-use lib.ListN.{getD, take, drop, set}
+use lib.ListN.{length, getD, take, drop, set}
 use Rattle.lists.specs.Below.{firstBelow}
 use Rattle.cards.specs.Card.{isAce}
 use Rattle.options.specs.declared.Options.{Options}
@@ -85,3 +85,18 @@ handsIn o opening [] i = []
 handsIn o opening (e ∷ es) i =
     handsAfter o (cardsOfHistory o opening es) i (stakedBelow es i) (stakedBelow es (o .seats)) (stakeIn es i) (turnIn o (cardsOfHistory o opening es) (λ k. handsIn o opening es k))
     (handsIn o opening es i) e
+
+-- The first cards of a seat in this round (request 2.6): its two dealt cards, and behind them, once they are split, the next card drawn, which goes to the parent. Later
+-- splits change nothing. `turn` is the seat whose turn it is.
+unfoldable pub firstAfter : Cards → ℕ → ℕ → List Played → List Played → List ℕ → Entry → List ℕ
+firstAfter c i turn before after first e =
+    cond (isDeal e) (getD after 0 missingHand .cards)
+    (cond (isEnd e) []
+    (cond (isSplit e && eqb i turn && eqb (length before) 1) (first ++ (nextCard c 0 ∷ []))
+    first))
+
+abbrev pub firstIn : Options → List ℕ → List Entry → ℕ → List ℕ
+firstIn o opening [] i = []
+firstIn o opening (e ∷ es) i =
+    firstAfter (cardsOfHistory o opening es) i (turnIn o (cardsOfHistory o opening es) (λ k. handsIn o opening es k)) (handsIn o opening es i) (handsIn o opening (e ∷ es) i)
+    (firstIn o opening es i) e

@@ -1,6 +1,6 @@
--- Document 01, "The history", money: a seat lays in a round its stake, its insurance, and S again for each double and split. Its purse is its buys − cashes − all it
--- laid + all its prizes; for each closed round add what it laid and its nets; for each voided round add what it laid and take its prizes
--- off. Its layout money is what it laid in the round not yet ended. These sums may pass below 0 on the way.
+-- Document 01, "The history", money: a seat lays in a round its stake, its insurance, its side stakes (request 2.6), and S again for each double and split. Its
+-- purse is its buys − cashes − all it laid + all its prizes; for each closed round add what it laid and its nets; for each voided round add what it laid and take
+-- its prizes off. Its layout money is what it laid in the round not yet ended. These sums may pass below 0 on the way.
 use mathlib.Core.Bool.{cond, _&&_, _||_}
 use mathlib.Core.List.{List, [], _∷_}
 use Prim.Native.Nat.{ℕ, _+_}
@@ -11,12 +11,13 @@ use Rattle.payment.specs.declared.bank.Score.{Score}
 use Rattle.rules.specs.SeatHand.{Played, byDouble}
 use Rattle.payment.specs.Bank.{scoreOf}
 use Rattle.rules.specs.Turn.{waitingPlace}
+use Rattle.payment.specs.Bets.{Bets, bets}
 use Rattle.payment.specs.Pays.{paysOf, netsOf}
 use Rattle.payment.specs.Prize.{prize}
-use Rattle.history.specs.Entry.{Entry, isOf, isFill, isCredit, isBuy, isCash, isStake, isInsure, isDraw, isDouble, isSplit, isClose, isVoid, isEnd, amountOf}
-use Rattle.history.specs.Rounds.{stakeIn, insuranceIn}
+use Rattle.history.specs.Entry.{Entry, isOf, isFill, isCredit, isBuy, isCash, isStake, isInsure, isSide, isDraw, isDouble, isSplit, isClose, isVoid, isEnd, amountOf}
+use Rattle.history.specs.Rounds.{stakeIn, insuranceIn, sidesIn}
 use Rattle.history.specs.Cards.{Cards, cardsOfHistory, bankFinal}
-use Rattle.history.specs.Hands.{missingHand, grown, finished, nextCard, handsIn}
+use Rattle.history.specs.Hands.{missingHand, grown, finished, nextCard, handsIn, firstIn}
 
 -- Money that came and went with the house's and the cashier's calls, over all seats.
 abbrev pub cameIn : List Entry → ℕ
@@ -38,7 +39,7 @@ cashed (e ∷ es) i = cond (isCash e && isOf i e) (amountOf e) 0 + cashed es i
 
 -- What a call of the seat lays, S being its stake in the round.
 unfoldable pub lays : ℕ → ℕ → Entry → ℕ
-lays i S e = cond (isOf i e) (cond (isStake e || isInsure e) (amountOf e) (cond (isDouble e || isSplit e) S 0)) 0
+lays i S e = cond (isOf i e) (cond (isStake e || isInsure e || isSide e) (amountOf e) (cond (isDouble e || isSplit e) S 0)) 0
 
 -- All that the seat laid, and what it laid in the round not yet ended: its layout money.
 abbrev pub laidEver : List Entry → ℕ → ℕ
@@ -69,12 +70,15 @@ module _ (o : Options) (opening : List ℕ) where
   prizesIn [] i = 0
   prizesIn (e ∷ es) i = cond (isEnd e) 0 (prizeOf es i e + prizesIn es i)
 
-  -- The nets of all that is paid to a seat, if the round closes now.
+  -- What a seat has on the layout, and the nets of all that is paid to it, if the round closes now.
   abbrev pub closingScore : List Entry → Score
   closingScore es = scoreOf (bankFinal o (cardsOfHistory o opening es))
 
+  abbrev pub betsIn : List Entry → ℕ → Bets
+  betsIn es i = bets (stakeIn es i) (insuranceIn es i) (sidesIn es i) (firstIn o opening es i) (handsIn o opening es i)
+
   abbrev pub netsIn : List Entry → ℕ → ℤ
-  netsIn es i = netsOf (paysOf o (closingScore es) (stakeIn es i) (insuranceIn es i) (handsIn o opening es i))
+  netsIn es i = netsOf (paysOf o (closingScore es) (betsIn es i))
 
   -- What a call adds that ends a round: for a closed round what the seat laid and its nets; for a voided round what it laid less its prizes.
   abbrev pub endBrings : List Entry → ℕ → Entry → ℤ

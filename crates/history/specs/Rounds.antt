@@ -4,7 +4,7 @@ use mathlib.Core.List.{List, [], _∷_}
 use Prim.Native.Nat.{ℕ}
 use lib.Dec.{ltb}
 use Rattle.lists.specs.Below.{sumBelow}
-use Rattle.history.specs.Entry.{Entry, isOf, isStake, isDeal, isInsure, isDrawing, isDecision, isEnd, amountOf}
+use Rattle.history.specs.Entry.{Entry, isOf, isStake, isSideOf, isDeal, isInsure, isDrawing, isDecision, isEnd, amountOf}
 
 -- A round is dealt: after its deal, until it ends.
 abbrev pub isDealtRound : List Entry → Bool
@@ -29,6 +29,14 @@ stakeIn (e ∷ es) i = cond (isEnd e) 0 (cond (isStake e && isOf i e) (amountOf 
 abbrev pub insuranceIn : List Entry → ℕ → ℕ
 insuranceIn [] i = 0
 insuranceIn (e ∷ es) i = cond (isEnd e) 0 (cond (isInsure e && isOf i e) (amountOf e) (insuranceIn es i))
+
+-- What it laid as a side stake of kind k in this round, and the four by kind (request 2.6).
+abbrev pub sideIn : List Entry → ℕ → ℕ → ℕ
+sideIn [] i k = 0
+sideIn (e ∷ es) i k = cond (isEnd e) 0 (cond (isSideOf k e && isOf i e) (amountOf e) (sideIn es i k))
+
+abbrev pub sidesIn : List Entry → ℕ → List ℕ
+sidesIn es i = sideIn es i 1 ∷ sideIn es i 2 ∷ sideIn es i 3 ∷ sideIn es i 4 ∷ []
 
 -- How many seats below that number have staked in this round.
 abbrev pub stakedBelow : List Entry → ℕ → ℕ

@@ -4,6 +4,7 @@ use Rattle.table.specs.Money.{mostMoney}
 use Rattle.money.specs.declared.sums.Sums.{Sums}
 
 pub record SumsFit (k : ℕ) (m : Sums) : Type 0 where
+  pub stakes : m .stakes ≤ k * (mostMoney + 1)
   pub laid : m .laid ≤ k * (mostMoney + 1)
   pub prizes : m .prizes ≤ k * (mostMoney + 1)
   pub cover : m .cover ≤ k * (mostMoney + 1)

@@ -2,6 +2,8 @@
 ghost use mathlib.Core.Path.{_≡_};
 ghost use Rattle.lists.specs.Sum.{sumOf};
 ghost use Rattle.rules.specs.SeatHand.{handsOf};
+ghost use Prim.Native.Nat.{_≤_};
+ghost use Rattle.payment.specs.Bets.{allSides};
 ghost use Rattle.payment.specs.Wager.{wager as wagerOf};
 ghost use Rattle.table.specs.Seat.{laid as laidOf, prizes as prizesOf};
 use options::Options;
@@ -24,16 +26,26 @@ fn wagers(stake: u32, hands: SeatHands) -> u64
     all
 }
 
-// What the seat has laid: its stake before the deal, after it the wagers of its hands and its insurance.
+// The side stakes of all kinds.
+fn all_sides(sides: [u32; 4]) -> u64
+    ensures same { λ r. ⌜ r ≡ allSides sides ⌝ }
+    ensures small { λ r. ⌜ r ≤ 17179869184 ⌝ }
+{
+    (sides[0] as u64) + (sides[1] as u64) + (sides[2] as u64) + (sides[3] as u64)
+}
+
+// What the seat has laid: its stake before the deal, after it the wagers of its hands and its insurance; and its side stakes.
 pub fn laid(s: Seat) -> u64
     ensures { λ r. ⌜ r ≡ laidOf s ⌝ }
 {
     let money = s.money;
     let hands = s.hands;
+    let sides = money.sides;
+    let beside = all_sides(sides);
     if hands.many == 0 {
-        return money.stake as u64;
+        return (money.stake as u64) + beside;
     }
-    wagers(money.stake, hands) + (money.insurance as u64)
+    wagers(money.stake, hands) + (money.insurance as u64) + beside
 }
 
 // The prizes of the hands in use.

@@ -6,14 +6,16 @@ use crate::seat_money::laid;
 use crate::seat_money::prizes;
 use options::Options;
 use payment::cover::cover;
+use payment::cover::side_cover;
 use table::Seat;
 use table::Table;
 
 // All money on a table is at most 10^15.
 pub(crate) const MOST_MONEY: u64 = 1000000000000000;
 
-// What the seats have laid, their prizes, what the tray must hold for them, and what is in their purses.
+// The stakes of the seats, what they have laid, their prizes, what the tray must hold for them, and what is in their purses.
 pub struct Sums {
+    pub stakes: u64,
     pub laid: u64,
     pub prizes: u64,
     pub cover: u64,
@@ -37,10 +39,12 @@ pub fn seat_sums(o: Options, s: Seat) -> Sums
     ensures small { λ r. ⌜ SumsFit 1 r ⌝ }
 {
     let money = s.money;
+    let sides = money.sides;
     Sums {
+        stakes: money.stake as u64,
         laid: laid(s),
         prizes: prizes(o, s),
-        cover: cover(money.stake),
+        cover: cover(money.stake) + side_cover(sides),
         purses: cut(money.purse),
     }
 }
@@ -52,6 +56,7 @@ pub fn plus(a: Sums, b: Sums) -> Sums
     ensures { λ r. ⌜ r ≡ plusSums a b ⌝ }
 {
     Sums {
+        stakes: a.stakes + b.stakes,
         laid: a.laid + b.laid,
         prizes: a.prizes + b.prizes,
         cover: a.cover + b.cover,
@@ -66,10 +71,12 @@ fn with_seat_sums(all: Sums, o: Options, s: Seat) -> Sums
     ensures small { λ _. ⌜ SumsFit 1 (seatSums o s) ⌝ }
 {
     let money = s.money;
+    let sides = money.sides;
     Sums {
+        stakes: all.stakes + (money.stake as u64),
         laid: all.laid + laid(s),
         prizes: all.prizes + prizes(o, s),
-        cover: all.cover + cover(money.stake),
+        cover: all.cover + (cover(money.stake) + side_cover(sides)),
         purses: all.purses + cut(money.purse),
     }
 }
@@ -80,6 +87,7 @@ pub fn table_sums(t: Table) -> Sums
 {
     let o = t.options;
     let mut all = Sums {
+        stakes: 0,
         laid: 0,
         prizes: 0,
         cover: 0,

@@ -12,3 +12,10 @@ stakePermitted o S = leb (o .smallest) S && leb S (o .largest) && isEvenNumber S
 -- An insurance that the options permit: 1 exactly half the stake, 2 half to whole.
 unfoldable pub insurancePermitted : Options → ℕ → ℕ → Bool
 insurancePermitted o S I = cond (eqb (o .insurance) 1) (eqb (2 * I) S) (leb S (2 * I) && leb I S)
+
+-- A side stake (request 2.6): 1 to 100,000.
+abbrev pub mostSide : ℕ
+mostSide = 100000
+
+unfoldable pub sidePermitted : ℕ → Bool
+sidePermitted n = leb 1 n && leb n mostSide

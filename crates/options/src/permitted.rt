@@ -1,6 +1,6 @@
 // The amounts that the options permit (document 01, "House options, given at opening"): a stake, and an insurance of a stake. Every value is taken.
 ghost use mathlib.Core.Path.{_≡_};
-ghost use Rattle.options.specs.Permitted.{stakePermitted, insurancePermitted};
+ghost use Rattle.options.specs.Permitted.{stakePermitted, insurancePermitted, sidePermitted};
 use crate::Options;
 
 // A stake within the options, and even.
@@ -22,4 +22,11 @@ pub fn insurance_permitted(o: Options, stake: u32, amount: u64) -> bool
         return 2 * amount == s;
     }
     s <= 2 * amount
+}
+
+// A side stake: 1 to 100,000 (request 2.6).
+pub fn side_permitted(amount: u64) -> bool
+    ensures { λ r. ⌜ r ≡ sidePermitted amount ⌝ }
+{
+    1 <= amount && amount <= 100000
 }

@@ -1,5 +1,6 @@
 -- The cover is enough by the bounds of each hand's gain and prize; what the four hands take of it is worked out from the definitions.
 use mathlib.Core.Path.{_≡_, refl}
+use mathlib.Core.List.{[]}
 use Prim.Native.Nat.{ℕ, _+_, _*_}
 use native.Mathlib.Omega.{arith}
 use Rattle.lists.specs.Sum.{sumOf}
@@ -13,9 +14,10 @@ use Rattle.payment.specs.Wager.{wager}
 use Rattle.payment.specs.Prize.{prize, mostPrize}
 use Rattle.payment.specs.HandPay.{handBack, againstBank, handPay}
 use Rattle.payment.specs.Insurance.{insurancePay}
+use Rattle.payment.specs.Bets.{bets}
 use Rattle.payment.specs.CoverFits.{CoverFits, doubled, sevens, bust}
 use Rattle.payment.proofs.Pays.{laid-of, back-of}
-use Rattle.payment.proofs.cover.Bounds.{seat-cover}
+use Rattle.payment.proofs.cover.Bounds.{seat-cover, sides-most}
 
 module _ (o : Options) (S : ℕ) where
   -- each of the four lays twice the stake, wins as much and has the most that a prize can be
@@ -31,6 +33,21 @@ pub cover-fits : CoverFits
 unfolding sumOf wager insurancePay
 cover-fits =
     record {
-      enough = λ o bank S I hands few insured. omega (arith, laid-of o bank S I hands, back-of o bank S I hands, seat-cover o bank S hands I few insured);
-      taken = λ o S on. omega (arith, laid-of o bust S 0 sevens, back-of o bust S 0 sevens, back o S, won o S on);
+      enough = λ o bank b few insured.
+          omega (
+            arith,
+            laid-of o bank b,
+            back-of o bank b,
+            seat-cover o bank (b .stake) (b .hands) (b .insurance) few insured,
+            sides-most (b .first) (b .sides),
+          );
+      taken = λ o S on.
+          omega (
+            arith,
+            laid-of o bust (bets S 0 [] [] sevens),
+            back-of o bust (bets S 0 [] [] sevens),
+            back o S,
+            won o S on,
+            sides-most [] [],
+          );
     }

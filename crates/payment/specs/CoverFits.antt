@@ -1,4 +1,4 @@
--- Request 2.2: the cover is enough and cannot be smaller. Whatever is paid to a guest of at most four hands and an insurance within the stake is, with its prizes,
+-- Requests 2.2 and 2.6: the cover is enough and cannot be smaller. Whatever is paid to a guest of at most four hands and an insurance within the stake is, with its prizes,
 -- within what was laid and the cover; four doubled hands of three sevens against a bust bank take all of it.
 use mathlib.Core.Path.{_≡_}
 use mathlib.Core.Bool.{false}
@@ -11,7 +11,8 @@ use Rattle.rules.specs.SeatHand.{Played, split, byDouble}
 use Rattle.payment.specs.declared.bank.Score.{Score}
 use Rattle.payment.specs.Prize.{prize}
 use Rattle.payment.specs.Pays.{paysOf, laidOf, backOf}
-use Rattle.payment.specs.Cover.{cover}
+use Rattle.payment.specs.Bets.{Bets, bets}
+use Rattle.payment.specs.Cover.{cover, sideCover}
 
 -- A doubled hand of three sevens, four of them, and a bank that is bust.
 abbrev pub doubled : Played
@@ -23,7 +24,12 @@ sevens = replicate 4 doubled
 abbrev pub bust : Score
 bust = record { total = 22; natural = false }
 
+-- What a guest's bets can take.
+abbrev pub betsCover : Bets → ℕ
+betsCover b = cover (b .stake) + sideCover (b .sides)
+
 pub record CoverFits : Type 0 where
-  pub enough : (o : Options) (bank : Score) (S I : ℕ) (hands : List Played) → length hands ≤ 4 → I ≤ S
-      → backOf (paysOf o bank S I hands) + sumOf (prize o S) hands ≤ laidOf (paysOf o bank S I hands) + cover S
-  pub taken : (o : Options) (S : ℕ) → o .prize ≡ 1 → backOf (paysOf o bust S 0 sevens) + sumOf (prize o S) sevens ≡ laidOf (paysOf o bust S 0 sevens) + cover S
+  pub enough : (o : Options) (bank : Score) (b : Bets) → length (b .hands) ≤ 4 → b .insurance ≤ b .stake
+      → backOf (paysOf o bank b) + sumOf (prize o (b .stake)) (b .hands) ≤ laidOf (paysOf o bank b) + betsCover b
+  pub taken : (o : Options) (S : ℕ) → o .prize ≡ 1
+      → backOf (paysOf o bust (bets S 0 [] [] sevens)) + sumOf (prize o S) sevens ≡ laidOf (paysOf o bust (bets S 0 [] [] sevens)) + cover S

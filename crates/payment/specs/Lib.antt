@@ -8,7 +8,10 @@ pub mod Prize
 pub mod Pay
 pub mod HandPay
 pub mod Insurance
--- All that is paid to a guest at close.
+-- Pay of a side stake.
+pub mod SidePay
+-- What a guest has on the layout, and all that is paid for it at close.
+pub mod Bets
 pub mod Pays
 -- The cover that the tray must hold.
 pub mod Cover

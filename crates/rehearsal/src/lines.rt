@@ -2,7 +2,7 @@
 ghost use Prim.Native.Nat.{_≤_, _+_};
 use answer::reply::Answer;
 use answer::scores::Scores;
-use call::pay_line::INSURANCE;
+use call::pay_line::HAND;
 use call::pay_line::LINES;
 use call::pay_line::line_kind;
 use call::pay_line::line_place;
@@ -113,12 +113,21 @@ fn net(n: i64) {
     io::print_decimal(STDOUT_FILENO, size(n));
 }
 
+// What a pay line is for, by its kind; the words stand eleven letters apart.
+fn purpose(kind: u8) {
+    let at = 11 * most(kind, 5);
+    line_at(
+        b" hand\n      insurance\n pair\n      sevens\n    more\n      less\n",
+        at,
+    );
+}
+
 fn pay_line(name: u32, n: i64) {
+    let kind = line_kind(name);
     counted(b"  seat", line_seat(name) as u64);
-    if line_kind(name) == INSURANCE {
-        words(b" insurance");
-    } else {
-        counted(b" hand", line_place(name) as u64);
+    purpose(kind);
+    if kind == HAND {
+        figure(line_place(name) as u64);
     }
     net(n);
     words(b"\n");
@@ -160,9 +169,9 @@ fn place(letters: &[u8], letter: u8) -> usize
 
 // The name of the call that a letter stands for; the names stand ten letters apart.
 fn name(letter: u8) {
-    let at = 10 * place(b"fcbxsDindm2pue5CVw", letter);
+    let at = 10 * place(b"fcbxsABEFGDindm2pue5CVw", letter);
     line_at(
-        b"fill\n     credit\n   buy\n      cash\n     stake\n    deal\n     insure\n   stand\n    draw\n     draw\n     double\n   split\n    surrender\neven\n     five\n     close\n    void\n     down\n     load\n     ",
+        b"fill\n     credit\n   buy\n      cash\n     stake\n    side\n     side\n     side\n     side\n     side\n     deal\n     insure\n   stand\n    draw\n     draw\n     double\n   split\n    surrender\neven\n     five\n     close\n    void\n     down\n     load\n     ",
         at,
     );
 }

@@ -45,10 +45,12 @@ pub fn empty_seat() -> Seat
             purse: 0,
             stake: 0,
             insurance: 0,
+            sides: [0u32; 4],
         },
         hands: SeatHands {
             places: [place; 4],
             many: 0,
         },
+        first: [0u8; 3],
     }
 }

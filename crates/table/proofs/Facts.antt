@@ -24,15 +24,16 @@ use Rattle.options.proofs.Facts.{in-range-facts}
 use Rattle.rules.specs.declared.seat_hand.SeatHand.{SeatHand}
 use Rattle.rules.specs.SeatHand.{playedOf}
 use Rattle.rules.proofs.seat_hand.Places.{many-hands}
+use Rattle.payment.specs.Bets.{allSides}
 use Rattle.table.specs.declared.Seat.{Seat}
 use Rattle.table.specs.declared.Table.{Table}
-use Rattle.table.specs.Seat.{missingPlace, purse, stake, insurance, isStaked, hands, laid, prizes}
+use Rattle.table.specs.Seat.{missingPlace, purse, stake, insurance, sides, isStaked, hands, laid, prizes}
 use Rattle.table.specs.Shoe.{validOrder}
 use Rattle.table.specs.Table.{seatAt, isDealt, up, someStaked, tableOrder, tableDrawn, tableDiscards, handCards, bankCards, tableShoe, cardsLeft}
 use Rattle.table.specs.Money.{mostMoney, allMoney, allPrizes, allCover}
 use Rattle.table.specs.Faces.{outCards}
-use Rattle.options.specs.Permitted.{insurancePermitted}
-use Rattle.table.specs.Broken.{broken, sound, soundShoe, soundDiscards, soundFaces, soundBank, soundMoney, seatSound, soundSeat, soundNumber, soundStake, soundInsurance, soundHands, soundPrizes, soundHand, soundOrigin, soundEnding}
+use Rattle.options.specs.Permitted.{insurancePermitted, mostSide}
+use Rattle.table.specs.Broken.{broken, sound, soundShoe, soundDiscards, soundFaces, soundBank, soundMoney, seatSound, soundSeat, soundNumber, soundStake, soundInsurance, soundSides, soundHands, soundPrizes, soundHand, soundOrigin, soundEnding}
 use Rattle.table.specs.Aids.Sound.{Sound, SoundSeat, SoundHand, Insured, Playing, HoldsNothing}
 
 -- A hand.
@@ -58,17 +59,18 @@ facts-hand o up many h f = simp (le-leb _ _ (f .two-cards), le-leb _ _ (f .twent
 number-facts : (o : Options) (i : ℕ) (s : Seat) → soundNumber o i s ≡ true → o .seats ≤ i → HoldsNothing s
 unfolding soundNumber
 number-facts o i s e beyond =
-    let tests = eqb (purse s) 0 ∷ eqb (stake s) 0 ∷ eqb (insurance s) 0 ∷ eqb (s .hands .many) 0 ∷ [] in
+    let tests = eqb (purse s) 0 ∷ eqb (stake s) 0 ∷ eqb (insurance s) 0 ∷ allBelow (λ k. eqb (getD (sides s) k 0) 0) 4 ∷ eqb (s .hands .many) 0 ∷ [] in
     let test = and-at tests (or-other (ltb i (o .seats)) _ e (le-ltb _ _ beyond)) in
     record {
       no-purse = eqb-true _ _ (test 0);
       no-stake = eqb-true _ _ (test 1);
       no-insurance = eqb-true _ _ (test 2);
-      no-hands = eqb-true _ _ (test 3);
+      no-sides = λ k h. eqb-true _ _ (all-below _ 4 k (test 3) h);
+      no-hands = eqb-true _ _ (test 4);
     }
 
-nothing-test : (s : Seat) → HoldsNothing s → eqb (purse s) 0 && eqb (stake s) 0 && eqb (insurance s) 0 && eqb (s .hands .many) 0 ≡ true
-nothing-test s f = simp (f .no-purse, f .no-stake, f .no-insurance, f .no-hands)
+nothing-test : (s : Seat) → HoldsNothing s → eqb (purse s) 0 && eqb (stake s) 0 && eqb (insurance s) 0 && allBelow (λ k. eqb (getD (sides s) k 0) 0) 4 && eqb (s .hands .many) 0 ≡ true
+nothing-test s f = simp (f .no-purse, f .no-stake, f .no-insurance, below-all (λ k. eqb (getD (sides s) k 0) 0) 4 (λ k h. eq-eqb _ _ (f .no-sides k h)), f .no-hands)
 
 facts-number : (o : Options) (i : ℕ) (s : Seat) → (o .seats ≤ i → HoldsNothing s) → soundNumber o i s ≡ true
 unfolding soundNumber
@@ -88,6 +90,19 @@ insured-test o inRound up s f = simp (f .in-round, f .ace-up, lt-ltb _ _ (f .sta
 facts-insurance : (o : Options) (inRound : Bool) (up : ℕ) (s : Seat) → (0 < insurance s → Insured o inRound up s) → soundInsurance o inRound up s ≡ true
 unfolding soundInsurance
 facts-insurance o inRound up s f = some-test (insurance s) _ (λ some. insured-test o inRound up s (f some))
+
+-- The side stakes.
+sides-facts : (s : Seat) → soundSides s ≡ true → (k : ℕ) → k < 4 → 0 < getD (sides s) k 0 → (0 < stake s) × (getD (sides s) k 0 ≤ mostSide)
+unfolding soundSides
+sides-facts s e k h some =
+    let test = and-at (isStaked s ∷ leb (getD (sides s) k 0) mostSide ∷ []) (test-some (getD (sides s) k 0) _ (all-below _ 4 k e h) some) in
+    (ltb-true _ _ (test 0), leb-true _ _ (test 1))
+
+facts-sides : (s : Seat) → ((k : ℕ) → k < 4 → 0 < getD (sides s) k 0 → (0 < stake s) × (getD (sides s) k 0 ≤ mostSide)) → soundSides s ≡ true
+unfolding soundSides
+facts-sides s f =
+    below-all (λ k. eqb (getD (sides s) k 0) 0 || (isStaked s && leb (getD (sides s) k 0) mostSide)) 4 (λ k h.
+    some-test (getD (sides s) k 0) _ (λ some. simp (lt-ltb _ _ (f k h some .0), le-leb _ _ (f k h some .1))))
 
 -- The hands of a seat.
 waiting-facts : (o : Options) (inRound : Bool) (up : ℕ) (s : Seat) → soundHands o inRound up s ≡ true → s .hands .many ≡ 0 → inRound ≡ true → stake s ≡ 0
@@ -138,15 +153,16 @@ facts-hands o inRound up s waits plays = go (decLe (s .hands .many) 0)
 seat-facts : (o : Options) (inRound : Bool) (up i : ℕ) (s : Seat) → soundSeat o inRound up i s ≡ true → SoundSeat o inRound up i s
 unfolding soundSeat soundStake soundPrizes
 seat-facts o inRound up i s e =
-    let tests = soundNumber o i s ∷ soundStake o s ∷ soundInsurance o inRound up s ∷ soundHands o inRound up s ∷ soundPrizes o s ∷ [] in
+    let tests = soundNumber o i s ∷ soundStake o s ∷ soundInsurance o inRound up s ∷ soundSides s ∷ soundHands o inRound up s ∷ soundPrizes o s ∷ [] in
     let test = and-at tests e in
     record {
       beyond = number-facts o i s (test 0);
       stake-fits = test-some (stake s) _ (test 1);
       insured = insurance-facts o inRound up s (test 2);
-      waiting = waiting-facts o inRound up s (test 3);
-      playing = playing-facts o inRound up s (test 3);
-      prizes-back = leb-true _ _ (test 4);
+      sides-fit = sides-facts s (test 3);
+      waiting = waiting-facts o inRound up s (test 4);
+      playing = playing-facts o inRound up s (test 4);
+      prizes-back = leb-true _ _ (test 5);
     }
 
 facts-seat : (o : Options) (inRound : Bool) (up i : ℕ) (s : Seat) → SoundSeat o inRound up i s → soundSeat o inRound up i s ≡ true
@@ -156,6 +172,7 @@ facts-seat o inRound up i s f =
       facts-number o i s (f .beyond),
       some-test (stake s) _ (f .stake-fits),
       facts-insurance o inRound up s (f .insured),
+      facts-sides s (f .sides-fit),
       facts-hands o inRound up s (f .waiting) (f .playing),
       le-leb _ _ (f .prizes-back),
     )
@@ -268,11 +285,19 @@ most-many o inRound up i s most f = go (decLe (s .hands .many) 0)
 pub few-hands : (o : Options) (inRound : Bool) (up i : ℕ) (s : Seat) → o .hands ≤ 4 → SoundSeat o inRound up i s → length (hands s) ≤ 4
 few-hands o inRound up i s most f = simp (length-map, length-take) (omega (arith, most-many o inRound up i s most f))
 
--- a seat without hands: what it laid is its stake, and it has no prize
+-- a seat without a stake has no side stake
+pub no-sides : (o : Options) (inRound : Bool) (up i : ℕ) (s : Seat) → SoundSeat o inRound up i s → stake s ≡ 0 → (k : ℕ) → k < 4 → getD (sides s) k 0 ≡ 0
+no-sides o inRound up i s f none k h = go (decLe (getD (sides s) k 0) 0)
+  where
+    go : Dec (getD (sides s) k 0 ≤ 0) → getD (sides s) k 0 ≡ 0
+    go (yes l) = omega arith
+    go (no l) = absurd (omega (arith, f .sides-fit k h (omega arith) .0))
+
+-- a seat without hands: what it laid is its stake and its side stakes, and it has no prize
 pub no-hands : (s : Seat) → s .hands .many ≡ 0 → hands s ≡ []
 no-hands s none = rw none
 
-pub laid-stake : (s : Seat) → s .hands .many ≡ 0 → laid s ≡ stake s
+pub laid-stake : (s : Seat) → s .hands .many ≡ 0 → laid s ≡ stake s + allSides (sides s)
 unfolding laid
 laid-stake s none = rw none
 

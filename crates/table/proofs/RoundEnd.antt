@@ -1,4 +1,4 @@
--- A round that ends, closed or voided: no seat keeps a stake, an insurance or a hand, and all drawn cards are the discards.
+-- A round that ends, closed or voided: no seat keeps a stake, an insurance, a side stake or a hand, and all drawn cards are the discards.
 -- What the new purses, the new tray and the new shoe must give for the table to stay sound.
 use mathlib.Core.Path.{_≡_, refl, sym, _∙_, ap}
 use mathlib.Core.Bool.{false, true≢false}
@@ -64,7 +64,7 @@ pub cleared-at : (purse-of : Seat → ℕ) (seats : List Seat) (i : ℕ) → i <
 cleared-at purse-of seats i h = getD-any (map (cleared purse-of) seats) i missingSeat (cleared purse-of missingSeat) (omega (arith, length-map seats (cleared purse-of))) ∙ List·getD-map (cleared purse-of) seats i missingSeat
 
 cleared-shaped : (purse-of : Seat → ℕ) (s : Seat) → ShapedSeat (cleared purse-of s)
-cleared-shaped purse-of s = record { four-places = refl; twenty-cards = λ p h. ap (λ (x : SeatHand). length (x .hand .cards)) (getD-replicate 4 p emptyPlace missingPlace h) }
+cleared-shaped purse-of s = record { four-places = refl; four-sides = refl; three-first = refl; twenty-cards = λ p h. ap (λ (x : SeatHand). length (x .hand .cards)) (getD-replicate 4 p emptyPlace missingPlace h) }
 
 module _ (t : Table) (tray : ℕ) (purse-of : Seat → ℕ) (shoe : Shoe) (k : ℕ) (shaped : Shaped t) (sound : Sound t) (end : RoundEnd t tray purse-of shoe k) where
   abbrev after : Table
@@ -115,9 +115,10 @@ module _ (t : Table) (tray : ℕ) (purse-of : Seat → ℕ) (shoe : Shoe) (k : �
   end-seat : (i : ℕ) → SoundSeat (t .options) (isDealt t) (up t) i (seatAt t i) → SoundSeat (t .options) false (up after) i (cleared purse-of (seatAt t i))
   end-seat i s =
       record {
-        beyond = λ h. record { no-purse = end .nothing-stays (seatAt t i) (s .beyond h); no-stake = refl; no-insurance = refl; no-hands = refl };
+        beyond = λ h. record { no-purse = end .nothing-stays (seatAt t i) (s .beyond h); no-stake = refl; no-insurance = refl; no-sides = λ k l. getD-replicate 4 k 0 0 l; no-hands = refl };
         stake-fits = λ h. absurd (omega arith);
         insured = λ h. absurd (omega arith);
+        sides-fit = λ k l h. absurd (omega (arith, getD-replicate {A = ℕ} 4 k 0 0 l));
         waiting = λ none dealt. refl;
         playing = λ h. absurd (omega arith);
         prizes-back = omega (arith, cleared-prizes (t .options) purse-of (seatAt t i));

@@ -1,7 +1,7 @@
 -- A seat's hands, and the seat with another hand in a place or with two hands for one: its views and sums.
 use mathlib.Core.Path.{_≡_, _∙_, ap}
 use mathlib.Core.Bool.{false}
-use mathlib.Core.List.{map}
+use mathlib.Core.List.{List, map}
 use Prim.Native.Nat.{ℕ, zero, suc, _+_, _≤_, _<_}
 use native.Mathlib.Decide.{decLe}
 use lib.Dec.{eqb}
@@ -19,27 +19,28 @@ use Rattle.rules.specs.declared.seat_hand.SeatHand.{SeatHand}
 use Rattle.rules.specs.SeatHand.{Played, playedOf}
 use Rattle.rules.proofs.seat_hand.Places.{many-hands, hand-at}
 use Rattle.payment.specs.Wager.{wager}
+use Rattle.payment.specs.Bets.{allSides}
 use Rattle.table.specs.declared.Money.{Money}
 use Rattle.table.specs.declared.Seat.{Seat}
-use Rattle.table.specs.Seat.{makeSeat, missingPlace, stake, insurance, hands, seatCards, laid}
+use Rattle.table.specs.Seat.{makeSeat, missingPlace, stake, insurance, sides, hands, seatCards, laid}
 use Rattle.table.specs.Shape.{ShapedSeat}
 use Rattle.table.specs.Broken.{soundOrigin, soundSurrender, soundEnding}
 use Rattle.table.specs.Aids.Sound.{SoundHand}
 
 -- the sums of a seat over its hands, once it has one
-pub laid-playing : (s : Seat) → ShapedSeat s → 0 < s .hands .many → laid s ≡ sumOf (wager (stake s)) (hands s) + insurance s
+pub laid-playing : (s : Seat) → ShapedSeat s → 0 < s .hands .many → laid s ≡ sumOf (wager (stake s)) (hands s) + insurance s + allSides (sides s)
 unfolding laid
 laid-playing s shaped some = simp (ne-eqb (length (hands s)) 0 (λ none. omega (arith, many-hands (s .hands) (shaped .four-places))))
 
 pub seat-cards : (w : ℕ → ℕ) (s : Seat) → sumOf w (seatCards s) ≡ sumOf (λ h. sumOf w (h .cards)) (hands s)
 seat-cards w s = sum-flat w (λ h. h .cards) (hands s)
 
--- the seat with another hand at p, and with two hands for the one there
+-- the seat with another hand at p, and with two hands for the one there and these first cards
 abbrev pub with-hand : Seat → Money → ℕ → SeatHand → Seat
-with-hand s m p h = makeSeat m (record { places = set (s .hands .places) p h; many = s .hands .many })
+with-hand s m p h = makeSeat m (record { places = set (s .hands .places) p h; many = s .hands .many }) (s .first)
 
-abbrev pub with-two : Seat → Money → ℕ → SeatHand → SeatHand → Seat
-with-two s m p a b = makeSeat m (record { places = take 4 (two-for (s .hands .places) p a b); many = s .hands .many + 1 })
+abbrev pub with-two : Seat → Money → ℕ → SeatHand → SeatHand → List ℕ → Seat
+with-two s m p a b first = makeSeat m (record { places = take 4 (two-for (s .hands .places) p a b); many = s .hands .many + 1 }) first
 
 -- with two hands or more the codes do not depend on how many there are
 one-more : (o : Options) (up many : ℕ) (h : SeatHand) → 2 ≤ many → SoundHand o up many h → SoundHand o up (many + 1) h
@@ -60,10 +61,12 @@ module _ (s : Seat) (p : ℕ) (shaped : ShapedSeat s) (few : s .hands .many ≤ 
     pub hands-with : hands (with-hand s m p h) ≡ set (hands s) p (playedOf h)
     hands-with = ap (map playedOf) (take-set-lt (s .hands .many) (s .hands .places) p h here) ∙ map-set playedOf (take (s .hands .many) (s .hands .places)) p h
 
-    pub shaped-with : length (h .hand .cards) ≡ 20 → ShapedSeat (with-hand s m p h)
-    shaped-with full =
+    pub shaped-with : length (h .hand .cards) ≡ 20 → length (m .sides) ≡ 4 → ShapedSeat (with-hand s m p h)
+    shaped-with full four =
         record {
           four-places = length-set (s .hands .places) p h ∙ shaped .four-places;
+          four-sides = four;
+          three-first = shaped .three-first;
           twenty-cards = λ q l. holds-set (λ n x. length (x .hand .cards) ≡ 20) (s .hands .places) p q h missingPlace (omega (arith, shaped .four-places)) full (shaped .twenty-cards q l);
         }
 
@@ -77,17 +80,19 @@ module _ (s : Seat) (p : ℕ) (shaped : ShapedSeat s) (few : s .hands .many ≤ 
     pub sum-with : (f : Played → ℕ) → sumOf f (hands (with-hand s m p h)) + f (playedOf (getD (s .hands .places) p missingPlace)) ≡ sumOf f (hands s) + f (playedOf h)
     sum-with f = rw (hands-with, ← hand-is) (sum-set f (hands s) p (playedOf h) (playedOf missingPlace) (omega (arith, how-many)))
 
-  module _ (m : Money) (a b : SeatHand) where
-    pub hands-two : s .hands .many < 4 → hands (with-two s m p a b) ≡ two-for (hands s) p (playedOf a) (playedOf b)
+  module _ (m : Money) (a b : SeatHand) (first : List ℕ) where
+    pub hands-two : s .hands .many < 4 → hands (with-two s m p a b first) ≡ two-for (hands s) p (playedOf a) (playedOf b)
     hands-two room =
         ap (map playedOf) (take-take (s .hands .many + 1) 4 (two-for (s .hands .places) p a b) (omega arith))
         ∙ rw add-one (ap (map playedOf) (take-two-for (s .hands .places) p (s .hands .many) a b here))
         ∙ map-two-for playedOf (take (s .hands .many) (s .hands .places)) p a b
 
-    pub shaped-two : length (a .hand .cards) ≡ 20 → length (b .hand .cards) ≡ 20 → ShapedSeat (with-two s m p a b)
-    shaped-two full-a full-b =
+    pub shaped-two : length (a .hand .cards) ≡ 20 → length (b .hand .cards) ≡ 20 → length (m .sides) ≡ 4 → length first ≡ 3 → ShapedSeat (with-two s m p a b first)
+    shaped-two full-a full-b four three =
         record {
           four-places = length-take-le 4 (two-for (s .hands .places) p a b) (omega (arith, length-two-for (s .hands .places) p a b (omega (arith, shaped .four-places)), shaped .four-places));
+          four-sides = four;
+          three-first = three;
           twenty-cards = λ q l.
               rw (getD-take 4 (two-for (s .hands .places) p a b) q missingPlace l)
               (holds-two-for (λ x. length (x .hand .cards) ≡ 20) (s .hands .places) p 4 a b missingPlace (omega (arith, shaped .four-places)) (omega arith) full-a full-b (shaped .twenty-cards) q (omega arith));
@@ -112,5 +117,5 @@ module _ (s : Seat) (p : ℕ) (shaped : ShapedSeat s) (few : s .hands .many ≤ 
             (λ k m. one-more o up (s .hands .many) _ two (each k m (omega (arith, shaped .four-places)))) q (omega arith)
         go (no one) q l = let only : p ≡ 0 = omega arith in rw only (both q (omega arith))
 
-    pub sum-two : s .hands .many < 4 → (f : Played → ℕ) → sumOf f (hands (with-two s m p a b)) + f (playedOf (getD (s .hands .places) p missingPlace)) ≡ sumOf f (hands s) + f (playedOf a) + f (playedOf b)
+    pub sum-two : s .hands .many < 4 → (f : Played → ℕ) → sumOf f (hands (with-two s m p a b first)) + f (playedOf (getD (s .hands .places) p missingPlace)) ≡ sumOf f (hands s) + f (playedOf a) + f (playedOf b)
     sum-two room f = rw (hands-two room, ← hand-is) (sum-two-for f (hands s) p (playedOf a) (playedOf b) (playedOf missingPlace) (omega (arith, how-many)))

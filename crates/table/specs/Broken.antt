@@ -13,13 +13,13 @@ use Rattle.cards.specs.Length.{couldBePlayed}
 use Rattle.cards.specs.Total.{total}
 use Rattle.options.specs.declared.Options.{Options}
 use Rattle.options.specs.Ranges.{inRange}
-use Rattle.options.specs.Permitted.{stakePermitted, insurancePermitted}
+use Rattle.options.specs.Permitted.{stakePermitted, insurancePermitted, mostSide}
 use Rattle.rules.specs.declared.seat_hand.SeatHand.{SeatHand}
 use Rattle.rules.specs.SeatHand.{Played, playedOf, dealt, split, splitAces, byStand, byDouble, bySurrender, byEven, byFive, hasTwoCards}
 use Rattle.rules.specs.OpenCalls.{evenOpen, fiveOpen}
 use Rattle.table.specs.declared.Seat.{Seat}
 use Rattle.table.specs.declared.Table.{Table}
-use Rattle.table.specs.Seat.{purse, stake, insurance, isStaked, laid, prizes}
+use Rattle.table.specs.Seat.{purse, stake, insurance, sides, isStaked, laid, prizes}
 use Rattle.table.specs.Shoe.{validOrder}
 use Rattle.table.specs.Table.{seatAt, isDealt, up, someStaked, tableOrder, tableDrawn}
 use Rattle.table.specs.Money.{mostMoney, allMoney, allPrizes, allCover}
@@ -55,7 +55,7 @@ soundHand o up many h =
 
 -- A seat beyond the option holds nothing.
 unfoldable pub soundNumber : Options → ℕ → Seat → Bool
-soundNumber o i s = ltb i (o .seats) || (eqb (purse s) 0 && eqb (stake s) 0 && eqb (insurance s) 0 && eqb (s .hands .many) 0)
+soundNumber o i s = ltb i (o .seats) || (eqb (purse s) 0 && eqb (stake s) 0 && eqb (insurance s) 0 && allBelow (λ k. eqb (getD (sides s) k 0) 0) 4 && eqb (s .hands .many) 0)
 
 -- A stake is 0 or permitted; an insurance is 0, or permitted for the stake with an ace up in a dealt round.
 unfoldable pub soundStake : Options → Seat → Bool
@@ -64,6 +64,10 @@ soundStake o s = eqb (stake s) 0 || stakePermitted o (stake s)
 -- Here and below `inRound` says whether a round is dealt, and `up` is the up card.
 unfoldable pub soundInsurance : Options → Bool → ℕ → Seat → Bool
 soundInsurance o inRound up s = eqb (insurance s) 0 || (inRound && isAce up && isStaked s && insurancePermitted o (stake s) (insurance s))
+
+-- A side stake is 0, or lies beside a stake and is 1 to 100,000 (request 2.6).
+unfoldable pub soundSides : Seat → Bool
+soundSides s = allBelow (λ k. eqb (getD (sides s) k 0) 0 || (isStaked s && leb (getD (sides s) k 0) mostSide)) 4
 
 -- A seat has a hand exactly if a round is dealt and it has a stake; it has no more hands than the option gives, each of them sound.
 unfoldable pub soundHands : Options → Bool → ℕ → Seat → Bool
@@ -77,7 +81,7 @@ soundPrizes o s = leb (prizes o s) (purse s + laid s)
 
 -- The seat of number i.
 unfoldable pub soundSeat : Options → Bool → ℕ → ℕ → Seat → Bool
-soundSeat o inRound up i s = soundNumber o i s && soundStake o s && soundInsurance o inRound up s && soundHands o inRound up s && soundPrizes o s
+soundSeat o inRound up i s = soundNumber o i s && soundStake o s && soundInsurance o inRound up s && soundSides s && soundHands o inRound up s && soundPrizes o s
 
 abbrev pub seatSound : Table → ℕ → Bool
 seatSound t i = soundSeat (t .options) (isDealt t) (up t) i (seatAt t i)

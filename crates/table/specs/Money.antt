@@ -24,7 +24,7 @@ allMoney t = t .tray + layout t + purses t
 abbrev pub pastMostMoney : Table → ℕ → Bool
 pastMostMoney t n = ltb mostMoney (allMoney t + n)
 
--- The prizes paid in this round, and what the tray must hold at the deal: 32 × all stakes.
+-- The prizes paid in this round, and what the tray must hold at the deal: 32 × all stakes and what the side stakes can win.
 abbrev pub allPrizes : Table → ℕ
 allPrizes t = sumOf (prizes (t .options)) (t .seats)
 

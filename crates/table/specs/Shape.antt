@@ -9,6 +9,8 @@ use Rattle.table.specs.Table.{seatAt}
 
 pub record ShapedSeat (s : Seat) : Type 0 where
   pub four-places : length (s .hands .places) ≡ 4
+  pub four-sides : length (s .money .sides) ≡ 4
+  pub three-first : length (s .first) ≡ 3
   pub twenty-cards : (p : ℕ) → p < 4 → length (getD (s .hands .places) p missingPlace .hand .cards) ≡ 20
 
 pub record Shaped (t : Table) : Type 0 where

@@ -3,17 +3,19 @@ use cards::hand::Hand;
 use options::Options;
 use rules::seat_hand::SeatHands;
 
-// A guest's money: the purse, and on the layout the stake and the insurance, 0 where there is none.
+// A guest's money: the purse, and on the layout the stake, the insurance and the side stakes by kind, 0 where there is none.
 pub struct Money {
     pub purse: u64,
     pub stake: u32,
     pub insurance: u32,
+    pub sides: [u32; 4],
 }
 
-// A seat: its guest's money and its hands.
+// A seat: its guest's money, its hands, and copies of its first two cards and of the first card that its first split drew: side stakes are paid by them.
 pub struct Seat {
     pub money: Money,
     pub hands: SeatHands,
+    pub first: [u8; 3],
 }
 
 // The shoe: the loaded order and how much of it is drawn; the discards and how many there are.

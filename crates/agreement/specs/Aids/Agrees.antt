@@ -2,12 +2,13 @@
 -- over lists of calls carries this from call to call.
 use mathlib.Core.Path.{_≡_}
 use mathlib.Core.List.{List}
-use Prim.Native.Nat.{ℕ, _+_}
+use Prim.Native.Nat.{ℕ, _+_, _<_}
 use lib.IntN.{pos}
+use lib.ListN.{length, getD}
 use Rattle.options.specs.declared.Options.{Options}
 use Rattle.table.specs.declared.Seat.{Seat}
 use Rattle.table.specs.declared.Table.{Table}
-use Rattle.table.specs.Seat.{purse, stake, insurance, hands, laid, prizes}
+use Rattle.table.specs.Seat.{purse, stake, insurance, sides, hands, firstCards, laid, prizes}
 use Rattle.table.specs.Shoe.{isFresh}
 use Rattle.table.specs.Table.{seatAt, bankCards, isDealt, tableOrder}
 use Rattle.table.specs.Progress.{anyDrew, anyDecided}
@@ -15,16 +16,18 @@ use Rattle.table.specs.Money.{allMoney}
 use Rattle.table.specs.Shape.{Shaped}
 use Rattle.table.specs.Aids.Sound.{Sound}
 use Rattle.history.specs.Entry.{Entry}
-use Rattle.history.specs.Rounds.{isDealtRound, decidedIn, drewIn, stakeIn, insuranceIn}
+use Rattle.history.specs.Rounds.{isDealtRound, decidedIn, drewIn, stakeIn, insuranceIn, sideIn}
 use Rattle.history.specs.Cards.{Cards, cardsOfHistory}
-use Rattle.history.specs.Hands.{handsIn}
+use Rattle.history.specs.Hands.{handsIn, firstIn}
 use Rattle.history.specs.Money.{cameIn, wentOut, laidIn, prizesIn, purseOf}
 
 -- A seat, with the history's seat of number i.
 pub record SeatAgrees (o : Options) (opening : List ℕ) (es : List Entry) (i : ℕ) (s : Seat) : Type 0 where
   pub stake-is : stake s ≡ stakeIn es i
   pub insurance-is : insurance s ≡ insuranceIn es i
+  pub sides-are : (k : ℕ) → k < 4 → getD (sides s) k 0 ≡ sideIn es i (k + 1)
   pub hands-are : hands s ≡ handsIn o opening es i
+  pub first-is : 0 < length (hands s) → firstCards s ≡ firstIn o opening es i
   pub laid-is : laid s ≡ laidIn es i
   pub prizes-are : prizes o s ≡ prizesIn o opening es i
   pub purse-is : pos (purse s) ≡ purseOf o opening es i

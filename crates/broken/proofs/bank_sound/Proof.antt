@@ -1,8 +1,8 @@
--- The tests are the definition's; some seat has a stake exactly if there is something to cover.
+-- The tests are the definition's; some seat has a stake exactly if the stakes are above 0.
 use mathlib.Core.Path.{sym}
 use borrow.Author.Tests.{eq-eqb, ne-eqb}
 use Rattle.table.specs.Broken.{soundBank}
-use Rattle.money.proofs.sums.Capping.{some-cover}
+use Rattle.money.proofs.sums.Capping.{some-stakes}
 use Rattle.broken.proofs.bank_sound.Statement.{statement}
 use Rattle.broken.proofs.bank_sound.Tie as tie
 
@@ -15,7 +15,7 @@ unfolding soundBank
 returns-2 c =
     let start = c .before .before .before .before .before .before in
     simp (ne-eqb _ _ (c .before .before .before .if1 .left), eq-eqb _ _ (c .before .if2 .taken))
-    (sym (some-cover (start .args .t) (start .args .m) (start .pre)))
+    (sym (some-stakes (start .args .t) (start .args .m) (start .pre)))
 
 returns-3 : tie.Need-returns-3
 unfolding soundBank

@@ -1,6 +1,7 @@
--- Stakes and insurances are 32 bits wide, so pay and net are far from 64 bits, and a net is kept as it is.
+-- Stakes, side stakes and insurances are 32 bits wide, so pay and net are far from 64 bits, and a net is kept as it is.
 use mathlib.Core.Path.{_≡_, ap}
 use mathlib.Core.Bool.{Bool, true, false, cond}
+use mathlib.Core.List.{List}
 use Prim.Native.Nat.{ℕ, zero, suc, _-_, _*_, _<_, _≤_}
 use native.Mathlib.Omega.{arith}
 use lib.Dec.{ltb}
@@ -16,8 +17,10 @@ use Rattle.payment.specs.declared.pay.Pay.{Pay}
 use Rattle.payment.specs.Pay.{net}
 use Rattle.payment.specs.HandPay.{handPay}
 use Rattle.payment.specs.Insurance.{insurancePay}
+use Rattle.payment.specs.SidePay.{sidePay}
 use Rattle.payment.proofs.Bounds.{wager-bounds}
 use Rattle.payment.proofs.cover.Bounds.{gain-most}
+use Rattle.close.proofs.paying.Back.{side-most}
 
 abbrev Small : Pay → Type 0
 Small p = (p .laid ≤ 1000000000000000) × (p .back ≤ 1000000000000000)
@@ -55,3 +58,11 @@ module _ (bank : Score) (n : ℕ) (small : n < 4294967296) (p : Pay) where
       let back = ap (λ (x : Pay). x .back) e in
       let most : insurancePay bank n .back ≤ 3 * n = cond-most (bank .natural) (omega arith) (omega arith) in
       (omega arith, omega arith)
+
+pub side-pay-small : (k n : ℕ) (first : List ℕ) → n < 4294967296 → (p : Pay) → p ≡ sidePay k n first → Small p
+unfolding sidePay
+side-pay-small k n first small p e =
+    let laid : p .laid ≡ n = ap (λ (x : Pay). x .laid) e in
+    let back : p .back ≡ sidePay k n first .back = ap (λ (x : Pay). x .back) e in
+    let most = side-most k n first in
+    (omega arith, omega arith)

@@ -18,7 +18,7 @@ handFor first hands = cond first emptyHand (getD (hands .places) 0 missingPlace 
 
 -- The seat with its card: the first card of a deal or the second.
 abbrev pub give : Bool → Seat → ℕ → Seat
-give first s card = withOnly s (record { hand = withCard (handFor first (s .hands)) card; origin = dealt; ended = notEnded })
+give first s card = withOnly s (record { hand = withCard (handFor first (s .hands)) card; origin = dealt; ended = notEnded }) (cond first 0 1) card
 
 -- What a pass makes of a seat: with the card where it has a stake.
 abbrev pub serve : Bool → Seat → ℕ → Seat

@@ -13,12 +13,13 @@ use Rattle.table.specs.Seat.{makeSeat, withMoney, purse, stake}
 use Rattle.table.specs.Shoe.{withDrawn}
 use Rattle.table.specs.Table.{seatAt, up, withSeat, withShoe}
 use Rattle.decisions_spec.specs.Card.{cardAhead}
-use Rattle.decisions_spec.specs.Split.{splitHand, splitPlaces, splitEffect}
+use Rattle.decisions_spec.specs.Split.{splitHand, splitPlaces, splitFirst, splitEffect}
 use Rattle.draw.specs.Aids.Splits.{twoFor, splitSeat}
 
--- the seat: the purse, the places, and the hand and its place as the code has read them
-pub same-two : (s : Seat) (first second : ℕ) {paid : Seat} {places : List SeatHand} {p q kept-first kept-second : ℕ} {h k parent new : SeatHand}
+-- the seat: the purse, the first cards, the places, and the hand and its place as the code has read them
+pub same-two : (s : Seat) (first second : ℕ) {paid : Seat} {cards : List ℕ} {places : List SeatHand} {p q kept-first kept-second : ℕ} {h k parent new : SeatHand}
     → paid ≡ withMoney s (withPurse (s .money) (purse s - stake s))
+    → cards ≡ splitFirst s first
     → places ≡ splitPlaces (s .hands .places) p parent new
     → parent ≡ splitHand kept-first first
     → kept-first ≡ getD (cardsOf (h .hand)) 0 0
@@ -26,10 +27,10 @@ pub same-two : (s : Seat) (first second : ℕ) {paid : Seat} {places : List Seat
     → kept-second ≡ getD (cardsOf (h .hand)) 1 0
     → p ≡ q
     → h ≡ k
-    → makeSeat (paid .money) (record { places = places; many = s .hands .many + 1 }) ≡ twoFor s q k first second
+    → makeSeat (paid .money) (record { places = places; many = s .hands .many + 1 }) cards ≡ twoFor s q k first second
 unfolding twoFor
-same-two s first second pays puts is-parent keeps-first is-new keeps-second same-place same-hand =
-    rw (pays, puts, is-parent, keeps-first, is-new, keeps-second, same-place, same-hand)
+same-two s first second pays keeps puts is-parent keeps-first is-new keeps-second same-place same-hand =
+    rw (pays, keeps, puts, is-parent, keeps-first, is-new, keeps-second, same-place, same-hand)
 
 -- the table: that seat, with the seat and the up card as the code has read them, and the shoe with two cards drawn
 pub same-effect : (t : Table) (j : ℕ) {card first second : ℕ} {s next : Seat} {u : Table} {rest : Shoe}

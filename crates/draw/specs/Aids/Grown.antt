@@ -16,4 +16,4 @@ grownBy h card code = record { hand = withCard (h .hand) card; origin = h .origi
 -- The seat with another purse and this hand in the place of its first waiting one.
 abbrev pub grownSeat : Options → ℕ → Seat → SeatHand → ℕ → Seat
 grownSeat o up s h p =
-    makeSeat (withPurse (s .money) p) (record { places = set (s .hands .places) (waitingPlace o up (hands s)) h; many = s .hands .many })
+    makeSeat (withPurse (s .money) p) (record { places = set (s .hands .places) (waitingPlace o up (hands s)) h; many = s .hands .many }) (s .first)

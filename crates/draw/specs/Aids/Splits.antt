@@ -13,7 +13,7 @@ use Rattle.table.specs.Guest.{withPurse}
 use Rattle.table.specs.Seat.{makeSeat, purse, stake, hands}
 use Rattle.table.specs.Table.{seatAt, up}
 use Rattle.decisions_spec.specs.Place.{placeOf}
-use Rattle.decisions_spec.specs.Split.{splitHand, splitPlaces}
+use Rattle.decisions_spec.specs.Split.{splitHand, splitPlaces, splitFirst}
 use Rattle.decisions.specs.Aids.InTurn.{InTurn}
 
 -- The seat's first waiting hand.
@@ -25,6 +25,7 @@ unfoldable pub twoFor : Seat → ℕ → SeatHand → ℕ → ℕ → Seat
 twoFor s p h first second =
     makeSeat (withPurse (s .money) (purse s - stake s))
     (record { places = splitPlaces (s .hands .places) p (splitHand (getD (cardsOf (h .hand)) 0 0) first) (splitHand (getD (cardsOf (h .hand)) 1 0) second); many = s .hands .many + 1 })
+    (splitFirst s first)
 
 abbrev pub splitSeat : Options → ℕ → Seat → ℕ → ℕ → Seat
 splitSeat o card s first second = twoFor s (waitingPlace o card (hands s)) (waitingHand o card s) first second

@@ -4,12 +4,16 @@ use mathlib.Core.Path.{_≡_, refl, sym, _∙_, ap}
 use mathlib.Core.Bool.{Bool, true, false, cond}
 use mathlib.Core.List.{List, []}
 use mathlib.Core.Logic.{⊎-elim}
-use Prim.Native.Nat.{ℕ}
+use Prim.Native.Nat.{ℕ, _+_}
+use native.Mathlib.Omega.{arith}
 use denote.Ref.{now}
 use lib.Dec.{eqb}
 use lib.IntN.{ℤ}
 use borrow.Author.Needs.{needs}
+use borrow.Author.Tests.{ne-eqb}
+use Rattle.call.specs.declared.At.{At}
 use Rattle.call.specs.declared.Call.{Call}
+use Rattle.call.specs.declared.Call.the-variants.{Side}
 use Rattle.call.specs.Refusal.{Condition, first}
 use Rattle.call.specs.Answer.{scored}
 use Rattle.table.specs.declared.Table.{Table}
@@ -20,6 +24,8 @@ use Rattle.answer.specs.Scores.{scoresOf}
 use Rattle.answer.specs.declared.reply.Reply.{Reply}
 use Rattle.answer.specs.Reply.{ReplyView, replyBy, givenBy, givenOf, scoredReply}
 use Rattle.answer.proofs.reply.Laws.{plain}
+use Rattle.cashier_spec.specs.Side.{sideConditions, sideEffect}
+use Rattle.close_spec.specs.Close.{closeShown}
 use Rattle.engine.specs.Scores.{handScores}
 use Rattle.engine.specs.Step.{step}
 use Rattle.engine.proofs.step_checked.Statement.{statement}
@@ -40,6 +46,12 @@ plain-arm t order names nets conditions effect {c} {d} {asked} {o} {scores} {r} 
     = told ∙ rw (called, of) (shown-scores t effect d (eqb (first conditions) 0)) in
     plain names nets conditions effect t (handScores t d effect) scores r right (shown ∙ ap (λ (x : Outcome). scoredReply x scores) called)
     ∙ ap (λ (x : ReplyView). givenBy x names nets) (same ∙ ap (λ (x : Call). step t x order) (sym known))
+
+-- a side stake's kind is a number that close has not
+side-step : (t : Table) (at : At) (k n : ℕ) (order : List ℕ) → replyBy (sideConditions t (at .seat) k n) (scored []) (sideEffect t (at .seat) k n) t ≡ step t (Side at k n) order
+unfolding step
+side-step t at k n order =
+    ap (λ (b : Bool). replyBy (sideConditions t (at .seat) k n) (cond b (closeShown t) (scored [])) (sideEffect t (at .seat) k n) t) (sym (ne-eqb (17 + k) 15 (λ same. omega arith)))
 
 enum-known-c : tie.Need-enum-known-c
 enum-known-c c = search needs
@@ -151,6 +163,12 @@ enum-told-4 c = search needs
 load-requires : tie.Need-load-requires
 load-requires c κs = search needs
 
+enum-known-c-14 : tie.Need-enum-known-c-14
+enum-known-c-14 c = search needs
+
+side-requires : tie.Need-side-requires
+side-requires c κs = search needs
+
 scores-of-requires : tie.Need-scores-of-requires
 scores-of-requires c κs = search needs
 
@@ -183,7 +201,8 @@ returns-2 c =
     (⊎-elim (λ w. plain-arm t order names nets _ _ made told (w .4) (w .5 ∙ w .3 .ensures) (w .1 .given .1) refl)
     (⊎-elim (λ w. plain-arm t order names nets _ _ made told (w .4) (w .5 ∙ w .3 .ensures) (w .1 .given .1) refl)
     (⊎-elim (λ w. plain-arm t order names nets _ _ made told (w .3 ∙ w .1 .given .1) (w .4 ∙ w .2 .ensures) (w .1 .given .1) refl)
-    (λ w. plain-arm t order names nets _ _ made told (w .3 ∙ w .1 .given .1) (w .4 ∙ w .2 .ensures) (w .1 .given .1) refl))))))))))))))) (c .before .before .match .came)
+    (⊎-elim (λ w. plain-arm t order names nets _ _ made told (w .3 ∙ w .1 .given .1) (w .4 ∙ w .2 .ensures) (w .1 .given .1) refl)
+    (λ w. plain-arm t order names nets _ _ made told (w .4) (w .5 ∙ w .3 .ensures) (w .1 .given .1) (side-step t _ _ _ order))))))))))))))))) (c .before .before .match .came)
 
 pub step-checked-spec : {M : Type 1} → statement M
 step-checked-spec =
@@ -224,6 +243,8 @@ step-checked-spec =
     void-requires
     enum-told-4
     load-requires
+    enum-known-c-14
+    side-requires
     scores-of-requires
     scored-reply-requires
     returns-2)

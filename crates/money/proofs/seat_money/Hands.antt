@@ -1,5 +1,6 @@
 -- A seat's hands in use, as a loop over its places sees them: what it adds up hand by hand, and how much a seat can have laid and won in prizes.
 use mathlib.Core.Path.{_≡_, ap}
+use mathlib.Core.Bool.{cond}
 use Prim.Native.Nat.{ℕ, _+_, _*_, _≤_, _<_, min}
 use native.Mathlib.Nat.{mul-le-mul-left}
 use native.Mathlib.Numerals.{add-one}
@@ -15,11 +16,12 @@ use Rattle.options.specs.declared.Options.{Options}
 use Rattle.rules.specs.declared.seat_hand.SeatHands.{SeatHands}
 use Rattle.rules.specs.SeatHand.{Played, playedOf, handsOf}
 use Rattle.rules.proofs.seat_hand.Places.{none, many-hands, hand-at}
+use Rattle.payment.specs.Bets.{allSides}
 use Rattle.payment.specs.Wager.{wager}
 use Rattle.payment.specs.Prize.{mostPrize}
 use Rattle.payment.proofs.Bounds.{wager-bounds, seat-prizes}
 use Rattle.table.specs.declared.Seat.{Seat}
-use Rattle.table.specs.Seat.{stake, insurance, hands, laid, prizes}
+use Rattle.table.specs.Seat.{stake, insurance, sides, hands, laid, prizes}
 
 module _ (f : Played → ℕ) (s : SeatHands) (full : length (s .places) ≡ 4) where
   -- one hand more
@@ -42,11 +44,13 @@ pub no-hand : (s : SeatHands) → length (s .places) ≡ 4 → eqb (length (hand
 no-hand s full = rw length-map (count-taken (s .places) (s .many) 0 (omega arith))
 
 module _ (s : Seat) (full : length (s .hands .places) ≡ 4) where
-  pub laid-most : laid s ≤ 8 * stake s + insurance s
+  pub laid-most : laid s ≤ 8 * stake s + insurance s + allSides (sides s)
   unfolding laid
   laid-most =
+      let few : cond (eqb (length (hands s)) 0) (stake s) (sumOf (wager (stake s)) (hands s) + insurance s) ≤ 8 * stake s + insurance s =
       cond-most (eqb (length (hands s)) 0) (omega arith)
-      (omega (arith, hands-most (wager (stake s)) (s .hands) full (2 * stake s) (λ h. wager-bounds (stake s) h .1)))
+      (omega (arith, hands-most (wager (stake s)) (s .hands) full (2 * stake s) (λ h. wager-bounds (stake s) h .1))) in
+      omega (arith, few)
 
   pub prizes-most : (o : Options) → prizes o s ≤ 4 * mostPrize (stake s)
   unfolding prizes

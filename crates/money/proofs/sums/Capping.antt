@@ -1,5 +1,5 @@
--- What the sums say of the purses and the stakes themselves: cutting the purses changes no test of the limit, and something to cover is a stake.
-use mathlib.Core.Path.{_≡_, sym, _∙_, ap}
+-- What the sums say of the purses and the stakes themselves: cutting the purses changes no test of the limit, and stakes above 0 are a stake.
+use mathlib.Core.Path.{_≡_, refl, sym, _∙_, ap}
 use mathlib.Core.Bool.{true, false}
 use mathlib.Core.List.{List}
 use Prim.Native.Nat.{ℕ, _+_, _≤_}
@@ -11,7 +11,7 @@ use Rattle.lists.proofs.Sums.{sum-cut-most, sum-cut-least, any-sum}
 use Rattle.lists.proofs.Tests.{ltb-same}
 use Rattle.table.specs.declared.Seat.{Seat}
 use Rattle.table.specs.declared.Table.{Table}
-use Rattle.table.specs.Seat.{purse, stake, isStaked, seatCover}
+use Rattle.table.specs.Seat.{purse, stake, isStaked}
 use Rattle.table.specs.Table.{someStaked}
 use Rattle.table.specs.Money.{mostMoney}
 use Rattle.money.specs.declared.sums.Sums.{Sums}
@@ -30,14 +30,12 @@ module _ (seats : List Seat) where
   within-capped h = omega (arith, sum-cut-most purse (mostMoney + 1) seats, sum-cut-least purse (mostMoney + 1) seats)
 
 module _ (t : Table) (m : Sums) (sums : m ≡ tableSums t) where
-  -- some seat has a stake exactly if there is something to cover
-  pub some-cover : someStaked t ≡ ltb 0 (m .cover)
-  some-cover =
-      any-sum isStaked seatCover (λ s. ltb-same 0 (stake s) 0 (seatCover s) (λ h. omega arith) (λ h. omega arith)) (t .seats)
-      ∙ ap (λ (x : Sums). ltb 0 (x .cover)) (sym sums)
+  -- some seat has a stake exactly if the stakes are above 0
+  pub some-stakes : someStaked t ≡ ltb 0 (m .stakes)
+  some-stakes = any-sum isStaked stake (λ s. refl) (t .seats) ∙ ap (λ (x : Sums). ltb 0 (x .stakes)) (sym sums)
 
-  pub none-staked : m .cover ≡ 0 → someStaked t ≡ false
-  none-staked e = some-cover ∙ le-ltb 0 (m .cover) (omega arith)
+  pub none-staked : m .stakes ≡ 0 → someStaked t ≡ false
+  none-staked e = some-stakes ∙ le-ltb 0 (m .stakes) (omega arith)
 
-  pub is-staked : (m .cover ≡ 0 → ⊥) → someStaked t ≡ true
-  is-staked ne = some-cover ∙ lt-ltb 0 (m .cover) (omega arith)
+  pub is-staked : (m .stakes ≡ 0 → ⊥) → someStaked t ≡ true
+  is-staked ne = some-stakes ∙ lt-ltb 0 (m .stakes) (omega arith)

@@ -12,14 +12,14 @@ use Rattle.options.specs.Ranges.{inRange}
 use Rattle.rules.specs.declared.seat_hand.SeatHand.{SeatHand}
 use Rattle.table.specs.declared.Seat.{Seat}
 use Rattle.table.specs.declared.Table.{Table}
-use Rattle.table.specs.Seat.{missingPlace, purse, stake, insurance, laid, prizes}
+use Rattle.table.specs.Seat.{missingPlace, purse, stake, insurance, sides, laid, prizes}
 use Rattle.table.specs.Shoe.{validOrder}
 use Rattle.rules.specs.SeatHand.{playedOf}
 use Rattle.table.specs.Broken.{soundOrigin, soundEnding}
 use Rattle.table.specs.Table.{seatAt, isDealt, up, someStaked, tableOrder, tableDrawn}
 use Rattle.table.specs.Money.{mostMoney, allMoney, allPrizes, allCover}
 use Rattle.table.specs.Faces.{outCards}
-use Rattle.options.specs.Permitted.{stakePermitted, insurancePermitted}
+use Rattle.options.specs.Permitted.{stakePermitted, insurancePermitted, mostSide}
 
 -- A hand in use.
 pub record SoundHand (o : Options) (up many : ℕ) (h : SeatHand) : Type 0 where
@@ -48,6 +48,7 @@ pub record HoldsNothing (s : Seat) : Type 0 where
   pub no-purse : purse s ≡ 0
   pub no-stake : stake s ≡ 0
   pub no-insurance : insurance s ≡ 0
+  pub no-sides : (k : ℕ) → k < 4 → getD (sides s) k 0 ≡ 0
   pub no-hands : s .hands .many ≡ 0
 
 -- The seat of number i; `inRound` is whether a round is dealt, `up` the up card.
@@ -55,6 +56,7 @@ pub record SoundSeat (o : Options) (inRound : Bool) (up i : ℕ) (s : Seat) : Ty
   pub beyond : o .seats ≤ i → HoldsNothing s
   pub stake-fits : 0 < stake s → stakePermitted o (stake s) ≡ true
   pub insured : 0 < insurance s → Insured o inRound up s
+  pub sides-fit : (k : ℕ) → k < 4 → 0 < getD (sides s) k 0 → (0 < stake s) × (getD (sides s) k 0 ≤ mostSide)
   pub waiting : s .hands .many ≡ 0 → inRound ≡ true → stake s ≡ 0
   pub playing : 0 < s .hands .many → Playing o inRound up s
   pub prizes-back : prizes o s ≤ purse s + laid s

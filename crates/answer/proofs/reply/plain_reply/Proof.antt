@@ -1,7 +1,6 @@
 -- It shows no more than no scores.
 use mathlib.Core.Path.{_∙_, ap}
 use borrow.Author.Needs.{needs}
-use Rattle.answer.specs.declared.scores.Scores.{Scores}
 use Rattle.answer.specs.Reply.{scoredReply}
 use Rattle.answer.proofs.reply.plain_reply.Statement.{statement}
 use Rattle.answer.proofs.reply.plain_reply.Tie as tie

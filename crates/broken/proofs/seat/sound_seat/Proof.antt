@@ -2,13 +2,13 @@
 use mathlib.Core.Path.{_≡_, sym, ap, _∙_}
 use Prim.Native.Nat.{_+_}
 use lib.Dec.{leb}
-use borrow.Author.Needs.{needs}
 use Rattle.options.specs.declared.Options.{Options}
 use Rattle.table.specs.declared.Seat.{Seat}
 use Rattle.table.specs.Seat.{purse}
 use Rattle.table.specs.Broken.{soundPrizes, soundSeat}
 use Rattle.money.specs.declared.sums.Sums.{Sums}
 use Rattle.money.specs.Sums.{seatSums}
+use borrow.Author.Needs.{needs}
 use Rattle.broken.proofs.seat.sound_seat.Statement.{statement}
 use Rattle.broken.proofs.seat.sound_seat.Tie as tie
 
@@ -26,6 +26,9 @@ sound-stake-requires c κs = search needs
 sound-insurance-requires : tie.Need-sound-insurance-requires
 sound-insurance-requires c κs = search needs
 
+sound-sides-requires : tie.Need-sound-sides-requires
+sound-sides-requires c κs = search needs
+
 sound-hands-requires : tie.Need-sound-hands-requires
 sound-hands-requires c κs = search needs
 
@@ -35,12 +38,13 @@ sound-prizes-requires c κs = search needs
 returns : tie.Need-returns
 unfolding soundSeat
 returns c =
-    let start = c .before .before .before .before .before .before .before .before .before in
+    let start = c .before .before .before .before .before .before .before .before .before .before .before in
     simp (
-      sym (c .before .before .before .before .before .before .before .before .sound-number .ensures) ∙ c .before .before .before .before .before .before .before .if1 .taken,
-      sym (c .before .before .before .before .before .before .sound-stake .ensures) ∙ c .before .before .before .before .before .if2 .taken,
-      sym (c .before .before .before .before .sound-insurance .ensures) ∙ c .before .before .before .if3 .taken,
-      sym (c .before .before .sound-hands .ensures) ∙ c .before .if4 .taken,
+      sym (c .before .before .before .before .before .before .before .before .before .before .sound-number .ensures) ∙ c .before .before .before .before .before .before .before .before .before .if1 .taken,
+      sym (c .before .before .before .before .before .before .before .before .sound-stake .ensures) ∙ c .before .before .before .before .before .before .before .if2 .taken,
+      sym (c .before .before .before .before .before .before .sound-insurance .ensures) ∙ c .before .before .before .before .before .if3 .taken,
+      sym (c .before .before .before .before .sound-sides .ensures) ∙ c .before .before .before .if4 .taken,
+      sym (c .before .before .sound-hands .ensures) ∙ c .before .if5 .taken,
       c .sound-prizes .ensures ∙ by-sums (start .args .o) (start .args .s) (start .args .m) (start .pre),
     )
 
@@ -48,16 +52,28 @@ returns-2 : tie.Need-returns-2
 unfolding soundSeat
 returns-2 c =
     simp (
-      sym (c .before .before .before .before .before .before .before .sound-number .ensures) ∙ c .before .before .before .before .before .before .if1 .taken,
-      sym (c .before .before .before .before .before .sound-stake .ensures) ∙ c .before .before .before .before .if2 .taken,
-      sym (c .before .before .before .sound-insurance .ensures) ∙ c .before .before .if3 .taken,
-      sym (c .before .sound-hands .ensures) ∙ c .if4 .left,
-      c .if4 .left,
+      sym (c .before .before .before .before .before .before .before .before .before .sound-number .ensures) ∙ c .before .before .before .before .before .before .before .before .if1 .taken,
+      sym (c .before .before .before .before .before .before .before .sound-stake .ensures) ∙ c .before .before .before .before .before .before .if2 .taken,
+      sym (c .before .before .before .before .before .sound-insurance .ensures) ∙ c .before .before .before .before .if3 .taken,
+      sym (c .before .before .before .sound-sides .ensures) ∙ c .before .before .if4 .taken,
+      sym (c .before .sound-hands .ensures) ∙ c .if5 .left,
+      c .if5 .left,
     )
 
 returns-3 : tie.Need-returns-3
 unfolding soundSeat
 returns-3 c =
+    simp (
+      sym (c .before .before .before .before .before .before .before .sound-number .ensures) ∙ c .before .before .before .before .before .before .if1 .taken,
+      sym (c .before .before .before .before .before .sound-stake .ensures) ∙ c .before .before .before .before .if2 .taken,
+      sym (c .before .before .before .sound-insurance .ensures) ∙ c .before .before .if3 .taken,
+      sym (c .before .sound-sides .ensures) ∙ c .if4 .left,
+      c .if4 .left,
+    )
+
+returns-4 : tie.Need-returns-4
+unfolding soundSeat
+returns-4 c =
     simp (
       sym (c .before .before .before .before .before .sound-number .ensures) ∙ c .before .before .before .before .if1 .taken,
       sym (c .before .before .before .sound-stake .ensures) ∙ c .before .before .if2 .taken,
@@ -65,18 +81,22 @@ returns-3 c =
       c .if3 .left,
     )
 
-returns-4 : tie.Need-returns-4
+returns-5 : tie.Need-returns-5
 unfolding soundSeat
-returns-4 c =
+returns-5 c =
     simp (
       sym (c .before .before .before .sound-number .ensures) ∙ c .before .before .if1 .taken,
       sym (c .before .sound-stake .ensures) ∙ c .if2 .left,
       c .if2 .left,
     )
 
-returns-5 : tie.Need-returns-5
+returns-6 : tie.Need-returns-6
 unfolding soundSeat
-returns-5 c = simp (sym (c .before .sound-number .ensures) ∙ c .if1 .left, c .if1 .left)
+returns-6 c =
+    simp (
+      sym (c .before .sound-number .ensures) ∙ c .if1 .left,
+      c .if1 .left,
+    )
 
 pub sound-seat-spec : {M : Type 1} → statement M
 sound-seat-spec =
@@ -85,10 +105,12 @@ sound-seat-spec =
     sound-number-requires
     sound-stake-requires
     sound-insurance-requires
+    sound-sides-requires
     sound-hands-requires
     sound-prizes-requires
     returns
     returns-2
     returns-3
     returns-4
-    returns-5)
+    returns-5
+    returns-6)

@@ -14,7 +14,7 @@ use Rattle.close.proofs.paying.seats_back.Statement.{statement}
 use Rattle.close.proofs.paying.seats_back.Tie as tie
 
 abbrev Inv-loop : tie.InvT-loop
-Inv-loop bank t o all₀ seat₀ all seat = (seat ≤ 9) × (all ≡ sumOf (seatBack (t .options) bank) (take seat (t .seats))) × (all ≤ 81604378624 * seat)
+Inv-loop bank t o all₀ seat₀ all seat = (seat ≤ 9) × (all ≡ sumOf (seatBack (t .options) bank) (take seat (t .seats))) × (all ≤ 140819092733952 * seat)
 
 abbrev μ-loop : tie.MeasureT-loop
 μ-loop bank t o all₀ seat₀ all seat = 9 - seat

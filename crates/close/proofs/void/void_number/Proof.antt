@@ -1,4 +1,4 @@
--- The conditions are asked in the order of the list. Some seat has a stake exactly if there is something to cover.
+-- The conditions are asked in the order of the list. Some seat has a stake exactly if the stakes come to something.
 use borrow.Author.Needs.{needs}
 use Rattle.call.specs.Refusal.{first}
 use Rattle.deal.proofs.Asked.{nothing-staked}

@@ -46,14 +46,18 @@ sub-with-purse c = c .before .before .before .before .before .before .before .be
 with-purse-requires : tie.Need-with-purse-requires
 with-purse-requires c κs = search needs
 
+first-of-requires : tie.Need-first-of-requires
+first-of-requires c κs = search needs
+
 returns : tie.Need-returns
 returns c =
-    let put = c .before .before .before .before in
+    let paid = c .before in
+    let put = paid .before .before .before .before in
     let made = put .before in
     let hand = made .before .before .before .before .before in
     let start = hand .before .before .before .before .before in
     same-two (start .args .s) (start .args .first) (start .args .second)
-    (c .with-purse .ensures) (put .split-places .ensures)
+    (paid .with-purse .ensures) (c .first-of .ensures) (put .split-places .ensures)
     (made .before .before .split-hand .ensures) (made .before .before .before .kept-card .ensures)
     (made .split-hand2 .ensures) (made .before .kept-card2 .ensures)
     (hand .before .waiting-place .ensures) (hand .waiting-hand .ensures)
@@ -73,4 +77,5 @@ split-seat-spec =
     cast-with-purse
     sub-with-purse
     with-purse-requires
+    first-of-requires
     returns)

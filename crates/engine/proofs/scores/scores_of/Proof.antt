@@ -10,7 +10,7 @@ use Rattle.cards.specs.declared.score.HandScore.{HandScore}
 use types.Run.{OneOf, miss}
 use denote.Enum.Declared.{tagOf}
 use Rattle.call.specs.declared.Call.{Call}
-use Rattle.call.specs.declared.Call.the-variants.{Fill, Credit, Buy, Cash, Stake, Deal, Insure, Stand, Draw, Double, Split, Surrender, Even, Five, Close, Void, Load}
+use Rattle.call.specs.declared.Call.the-variants.{Fill, Credit, Buy, Cash, Stake, Deal, Insure, Stand, Draw, Double, Split, Surrender, Even, Five, Close, Void, Load, Side}
 use Rattle.call.proofs.Call.{the-type}
 use Rattle.table.specs.declared.Table.{Table}
 use Rattle.answer.specs.Scores.{scoresOf}
@@ -24,7 +24,7 @@ shows n t after accepted known same = rw (accepted, known) same
 
 -- the tags of all calls but deal, draw, double and split, which show no score
 abbrev others : List ℕ
-others = 0 ∷ 1 ∷ 2 ∷ 3 ∷ 4 ∷ 6 ∷ 7 ∷ 11 ∷ 12 ∷ 13 ∷ 14 ∷ 15 ∷ 16 ∷ []
+others = 0 ∷ 1 ∷ 2 ∷ 3 ∷ 4 ∷ 6 ∷ 7 ∷ 11 ∷ 12 ∷ 13 ∷ 14 ∷ 15 ∷ 16 ∷ 17 ∷ []
 
 none-shown : (t : Table) (c : Call) (after : Table) → OneOf others (tagOf the-type c) → [] ≡ handScores t c after
 none-shown t (Fill n) after k = refl
@@ -44,6 +44,7 @@ none-shown t (Five at) after k = refl
 none-shown t Close after k = refl
 none-shown t Void after k = refl
 none-shown t Load after k = refl
+none-shown t (Side at j n) after k = refl
 
 no-scores-requires : tie.Need-no-scores-requires
 no-scores-requires c κs = search needs

@@ -1,0 +1,2 @@
+-- Laws of the side stakes of a seat.
+pub mod Laws

@@ -1,0 +1,2 @@
+-- Laws of the first cards and of the odds.
+pub mod Laws
