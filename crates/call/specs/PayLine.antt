@@ -1,4 +1,4 @@
--- Document 01, "Payment": a pay line of close (seat, place, hand or insurance, net), and its name as one number.
+-- Document 01, "Payment", and request 2.6: a pay line of close (seat, place, what it is for: hand, insurance or side stake, and net), and its name as one number.
 use mathlib.Core.Path.{_≡_}
 use Prim.Native.Nat.{ℕ, _+_, _*_, _/_, _%_, _<_}
 use lib.IntN.{ℤ}

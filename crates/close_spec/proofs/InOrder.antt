@@ -1,10 +1,10 @@
 -- The lines stand from the left: seats' numbers rise, in a seat the insurance and the side stakes come before the hands, their kinds rise, and so do the hands' places.
-use mathlib.Core.Path.{_≡_, refl}
-use mathlib.Core.Bool.{Bool, true, false, cond, or-true}
+use mathlib.Core.Path.{_≡_, refl, ap}
+use mathlib.Core.Bool.{Bool, true, false, cond, _&&_, _||_, or-true}
 use mathlib.Core.List.{List, [], _∷_, _++_, map, append-assoc, map-append}
 use Prim.Native.Nat.{ℕ, suc, _≤_, _<_}
 use native.Mathlib.Omega.{arith}
-use lib.Dec.{ltb}
+use lib.Dec.{ltb, eqb}
 use borrow.Author.Tests.{eq-eqb, ne-eqb, lt-ltb}
 use Rattle.lists.specs.Tests.{allOf}
 use Rattle.call.specs.PayLine.{PayLine}
@@ -20,7 +20,7 @@ use Rattle.payment.specs.Pays.{Due, due, handKind, insuranceKind, sideKind, ins
 use Rattle.table.specs.declared.Seat.{Seat}
 use Rattle.table.specs.Seat.{stake, insurance, sides, hands, firstCards}
 use Rattle.close_spec.specs.PayLines.{lineOf, seatPays, seatLines, allLines}
-use Rattle.close_spec.specs.InOrder.{standsBefore, inOrder, InOrder}
+use Rattle.close_spec.specs.InOrder.{beforeInSeat, standsBefore, inOrder, InOrder}
 
 -- what each line of a seat passes, and each line of the seats from number i on
 pays-pass : (f : PayLine → Bool) (i : ℕ) (pays : List Due) (rest : List PayLine) → ((d : Due) → f (lineOf i d) ≡ true) → allOf f rest ≡ true
@@ -37,7 +37,7 @@ module _ (o : Options) (bank : Score) where
 
   -- a line stands before those of all later seats
   later-seats : (i : ℕ) (d : Due) (ss : List Seat) → allOf (standsBefore (lineOf i d)) (allLines o bank (suc i) ss) ≡ true
-  later-seats i d ss = seats-pass (standsBefore (lineOf i d)) (suc i) ss (λ j e h. simp (lt-ltb i j h))
+  later-seats i d ss = seats-pass (standsBefore (lineOf i d)) (suc i) ss (λ j e h. ap (λ (b : Bool). b || eqb i j && beforeInSeat (lineOf i d) (lineOf j e)) (lt-ltb i j h))
 
   -- a seat's lines with the rest, the later seats' lines, behind them: a line before the hands and the rest, the hands, and the lines in front of them
   module _ (i S : ℕ) (rest : List PayLine) (before : (d : Due) → allOf (standsBefore (lineOf i d)) rest ≡ true) (ordered : inOrder rest ≡ true) where

@@ -1,5 +1,5 @@
 -- Document 01, "The seventeen calls", close: the bank's cards are drawn, then all is paid and all cards become discards (articles 7 and 9 to 12).
--- Here are its numbers, the table after it, and what it returns: the bank's cards and the pay lines.
+-- Here are its numbers, the table after it, and what it returns: the bank's cards with their score, and the pay lines.
 use mathlib.Core.List.{List, [], _∷_, map}
 use Prim.Native.Nat.{ℕ, _+_, _-_}
 use Rattle.lists.specs.Sum.{sumOf}

@@ -1,6 +1,5 @@
 -- Request 2.3: pay lines from the left. Lines of close stand by seat; in a seat the insurance comes first, then its side stakes by kind (request 2.6), then its hands by
--- place. With each line exactly once
--- (EachOnce.antt) the answer of close is thereby wholly fixed.
+-- place. With each line exactly once (EachOnce.antt) the answer of close is thereby wholly fixed.
 use mathlib.Core.Path.{_≡_}
 use mathlib.Core.Bool.{Bool, true, not, cond, _&&_, _||_}
 use mathlib.Core.List.{List, [], _∷_}

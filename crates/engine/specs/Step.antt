@@ -72,7 +72,7 @@ effect t Void order = voidEffect t
 effect t Load order = loadEffect t order
 effect t (Side at k n) order = sideEffect t (at .seat) k n
 
--- What an accepted call shows, `after` being the table that it leaves: close the bank's cards and score and the pay lines, every other call the scores of its
+-- What an accepted call shows, `after` being the table that it leaves: close, the call of kind 15, the bank's cards and score and the pay lines, every other call the scores of its
 -- hands.
 abbrev pub shown : Table → Call → Table → Shown
 shown t c after = cond (eqb (kind c) 15) (closeShown t) (scored (handScores t c after))

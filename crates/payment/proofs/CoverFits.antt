@@ -5,6 +5,7 @@ use Prim.Native.Nat.{ℕ, _+_, _*_}
 use native.Mathlib.Omega.{arith}
 use Rattle.lists.specs.Sum.{sumOf}
 use Rattle.lists.specs.Tests.{anyOf, allOf}
+use Rattle.cards.specs.Pair.{isPair}
 use Rattle.cards.specs.Points.{pointsOf}
 use Rattle.cards.specs.Total.{total}
 use Rattle.cards.specs.PrizeHand.{allSevens, isPrizeHand}
@@ -14,6 +15,7 @@ use Rattle.payment.specs.Wager.{wager}
 use Rattle.payment.specs.Prize.{prize, mostPrize}
 use Rattle.payment.specs.HandPay.{handBack, againstBank, handPay}
 use Rattle.payment.specs.Insurance.{insurancePay}
+use Rattle.payment.specs.SidePay.{isSeven, sameSuit, pairOdds, sevensOdds, moreOdds, lessOdds, sideOdds, sidePay}
 use Rattle.payment.specs.Bets.{bets}
 use Rattle.payment.specs.CoverFits.{CoverFits, doubled, sevens, bust}
 use Rattle.payment.proofs.Pays.{laid-of, back-of}
@@ -30,7 +32,7 @@ module _ (o : Options) (S : ℕ) where
   won on = simp on (omega arith)
 
 pub cover-fits : CoverFits
-unfolding sumOf wager insurancePay
+unfolding sumOf wager insurancePay isPair pointsOf isSeven sameSuit pairOdds sevensOdds moreOdds lessOdds sideOdds sidePay
 cover-fits =
     record {
       enough = λ o bank b few insured.
@@ -50,4 +52,8 @@ cover-fits =
             won o S on,
             sides-most [] [],
           );
+      pair-wins = λ n. refl;
+      sevens-win = λ n. refl;
+      more-wins = λ n. refl;
+      less-wins = λ n. refl;
     }

@@ -33,12 +33,7 @@ sum-four : (f : Due → ℕ) (a b c d : List Due) → sumOf f (a ++ b ++ c ++ d)
 sum-four f a b c d = omega (arith, sum-append f (a ++ b ++ c) d, sum-append f (a ++ b) c, sum-append f a b)
 
 -- a sum over the pays, for any part of a pay
-module _ (part : Pay → ℕ) (o : Options) (bank : Score) where
-  hand-sum : (S p : ℕ) (hs : List Played) → sumOf (λ d. part (d .pay)) (handPays o bank S p hs) ≡ sumOf (λ h. part (handPay o bank S h)) hs
-  unfolding sumOf handPays
-  hand-sum S p [] = refl
-  hand-sum S p (h ∷ hs) = rw (hand-sum S (suc p) hs) refl
-
+module _ (part : Pay → ℕ) where
   -- one pay that is there only where something lies, and is 0 where nothing does
   one-sum : (n kind : ℕ) (p : Pay) → (n ≡ 0 → part p ≡ 0) → sumOf (λ d. part (d .pay)) (cond (ltb 0 n) (due kind 0 p ∷ []) []) ≡ part p
   unfolding sumOf
@@ -48,21 +43,28 @@ module _ (part : Pay → ℕ) (o : Options) (bank : Score) where
       go true e = simp e (omega arith)
       go false e = simp e (omega (arith, nothing (omega (arith, ltb-false 0 n e))))
 
-  module _ (b : Bets) (nothing : b .insurance ≡ 0 → part (insurancePay bank (b .insurance)) ≡ 0)
-      (none : (k n : ℕ) → n ≡ 0 → part (sidePay k n (b .first)) ≡ 0) where
-    side-sum : (k : ℕ) → sumOf (λ d. part (d .pay)) (sideDue k (side (b .sides) k) (b .first)) ≡ part (sidePay k (side (b .sides) k) (b .first))
+  module _ (sides first : List ℕ) (none : (k n : ℕ) → n ≡ 0 → part (sidePay k n first) ≡ 0) where
+    side-sum : (k : ℕ) → sumOf (λ d. part (d .pay)) (sideDue k (side sides k) first) ≡ part (sidePay k (side sides k) first)
     unfolding sideDue
-    side-sum k = one-sum (side (b .sides) k) (sideKind k) (sidePay k (side (b .sides) k) (b .first)) (none k (side (b .sides) k))
+    side-sum k = one-sum (side sides k) (sideKind k) (sidePay k (side sides k) first) (none k (side sides k))
 
-    sides-sum : sumOf (λ d. part (d .pay)) (sidePays (b .sides) (b .first)) ≡ sidesPart part (b .sides) (b .first)
+    sides-sum : sumOf (λ d. part (d .pay)) (sidePays sides first) ≡ sidesPart part sides first
     unfolding sidePays
     sides-sum =
-        sum-four (λ d. part (d .pay)) (sideDue 1 (side (b .sides) 1) (b .first)) (sideDue 2 (side (b .sides) 2) (b .first)) (sideDue 3 (side (b .sides) 3) (b .first)) (sideDue 4 (side (b .sides) 4) (b .first))
+        sum-four (λ d. part (d .pay)) (sideDue 1 (side sides 1) first) (sideDue 2 (side sides 2) first) (sideDue 3 (side sides 3) first) (sideDue 4 (side sides 4) first)
         ∙ rw (side-sum 1, side-sum 2, side-sum 3, side-sum 4) refl
 
+module _ (part : Pay → ℕ) (o : Options) (bank : Score) where
+  hand-sum : (S p : ℕ) (hs : List Played) → sumOf (λ d. part (d .pay)) (handPays o bank S p hs) ≡ sumOf (λ h. part (handPay o bank S h)) hs
+  unfolding sumOf handPays
+  hand-sum S p [] = refl
+  hand-sum S p (h ∷ hs) = rw (hand-sum S (suc p) hs) refl
+
+  module _ (b : Bets) (nothing : b .insurance ≡ 0 → part (insurancePay bank (b .insurance)) ≡ 0)
+      (none : (k n : ℕ) → n ≡ 0 → part (sidePay k n (b .first)) ≡ 0) where
     insurance-sum : sumOf (λ d. part (d .pay)) (insurancePays bank (b .insurance)) ≡ part (insurancePay bank (b .insurance))
     unfolding insurancePays
-    insurance-sum = one-sum (b .insurance) insuranceKind (insurancePay bank (b .insurance)) nothing
+    insurance-sum = one-sum part (b .insurance) insuranceKind (insurancePay bank (b .insurance)) nothing
 
     pays-sum : sumOf (λ d. part (d .pay)) (paysOf o bank b) ≡ sumOf (λ h. part (handPay o bank (b .stake) h)) (b .hands) + part (insurancePay bank (b .insurance)) + sidesPart part (b .sides) (b .first)
     unfolding paysOf
@@ -72,9 +74,17 @@ module _ (part : Pay → ℕ) (o : Options) (bank : Score) where
           sum-append (λ d. part (d .pay)) (insurancePays bank (b .insurance) ++ sidePays (b .sides) (b .first)) (handPays o bank (b .stake) 0 (b .hands)),
           sum-append (λ d. part (d .pay)) (insurancePays bank (b .insurance)) (sidePays (b .sides) (b .first)),
           insurance-sum,
-          sides-sum,
+          sides-sum part (b .sides) (b .first) none,
           hand-sum (b .stake) 0 (b .hands),
         )
+
+-- nothing goes back for a side stake of 0
+none-back : (first : List ℕ) (k n : ℕ) → n ≡ 0 → sidePay k n first .back ≡ 0
+unfolding sidePay
+none-back first k n none = rw none (omega (arith, cond-most (ltb 0 (sideOdds k first)) {x = 0 + sideOdds k first * 0} {y = 0} {k = 0} (omega arith) (omega arith)))
+
+pub sides-back : (sides first : List ℕ) → backOf (sidePays sides first) ≡ sidesPart (λ p. p .back) sides first
+sides-back sides first = sides-sum (λ p. p .back) sides first (none-back first)
 
 module _ (o : Options) (bank : Score) (b : Bets) where
   pub laid-of : laidOf (paysOf o bank b) ≡ sumOf (wager (b .stake)) (b .hands) + b .insurance + allSides (b .sides)
@@ -86,7 +96,7 @@ module _ (o : Options) (bank : Score) (b : Bets) where
   back-of =
       pays-sum (λ p. p .back) o bank b
       (λ none. omega (arith, cond-most (bank .natural) {x = 3 * b .insurance} {y = 0} {k = 3 * b .insurance} (omega arith) (omega arith)))
-      (λ k n none. rw none (omega (arith, cond-most (ltb 0 (sideOdds k (b .first))) {x = 0 + sideOdds k (b .first) * 0} {y = 0} {k = 0} (omega arith) (omega arith))))
+      (none-back (b .first))
 
 -- side stakes are paid by their four numbers alone; where each is 0 nothing is due, whatever the first cards
 pub same-sides : (sides first : List ℕ) (of : ℕ → ℕ) → ((k : ℕ) → k < 4 → getD sides k 0 ≡ of (k + 1)) → sidePays sides first ≡ sidePays (of 1 ∷ of 2 ∷ of 3 ∷ of 4 ∷ []) first

@@ -15,7 +15,7 @@ pub mod Bets
 pub mod Pays
 -- The cover that the tray must hold.
 pub mod Cover
--- Request 2.2: the cover is enough and cannot be smaller.
+-- Requests 2.2 and 2.6: the cover is enough and cannot be smaller.
 pub mod CoverFits
 -- The rehearsal hands that are proved together as one table.
 pub mod RehearsalHands

@@ -102,7 +102,7 @@ soundFaces t = allBelow (λ b. eqb (countOf b (outCards t)) (countOf b (tableDra
 unfoldable pub soundBank : Table → Bool
 soundBank t = eqb (t .bank .count) 0 || (eqb (t .bank .count) 1 && someStaked t)
 
--- All money is within 10^15; in a dealt round the tray with the prizes paid covers every stake.
+-- All money is within 10^15; in a dealt round the tray with the prizes paid covers every stake and side stake.
 unfoldable pub soundMoney : Table → Bool
 soundMoney t = leb (allMoney t) mostMoney && (not (isDealt t) || leb (allCover t) (t .tray + allPrizes t))
 

@@ -33,7 +33,7 @@ emptyHands = record { places = replicate 4 emptyPlace; many = 0 }
 abbrev pub emptySeat : Seat
 emptySeat = makeSeat (holding 0) emptyHands (replicate 3 0)
 
--- A seat at the end of a round: no stake, no insurance and no hand, and this purse.
+-- A seat at the end of a round: no stake of any kind, no insurance and no hand, and this purse.
 abbrev pub clearedSeat : ℕ → Seat
 clearedSeat purse = makeSeat (holding purse) emptyHands (replicate 3 0)
 

@@ -4,10 +4,10 @@ use Prim.Native.Nat.{_≤_}
 use native.Mathlib.Omega.{arith}
 use borrow.Author.Needs.{needs}
 use lib.ListN.{length, length-map}
-use Rattle.payment.proofs.Pays.{back-of}
+use Rattle.payment.proofs.Pays.{back-of, sides-back}
 use Rattle.table.specs.Seat.{betsOf, sides, firstCards}
 use Rattle.close_spec.specs.Close.{seatBack}
-use Rattle.close.proofs.paying.Back.{insurance-most, sides-back}
+use Rattle.close.proofs.paying.Back.{insurance-most}
 use Rattle.close.proofs.FirstCards.{first-cards}
 use Rattle.close.proofs.paying.seat_back.Statement.{statement}
 use Rattle.close.proofs.paying.seat_back.Tie as tie

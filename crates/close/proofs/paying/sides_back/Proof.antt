@@ -3,7 +3,7 @@ use native.Mathlib.Omega.{arith}
 use borrow.Author.Needs.{needs}
 use lib.ListN.{take}
 use mathlib.Core.Bool.{cond}
-use Rattle.close.proofs.paying.Back.{sides-back}
+use Rattle.payment.proofs.Pays.{sides-back}
 use Rattle.close.proofs.paying.sides_back.Statement.{statement}
 use Rattle.close.proofs.paying.sides_back.Tie as tie
 

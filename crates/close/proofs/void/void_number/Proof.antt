@@ -1,7 +1,7 @@
 -- The conditions are asked in the order of the list. Some seat has a stake exactly if the stakes come to something.
 use borrow.Author.Needs.{needs}
 use Rattle.call.specs.Refusal.{first}
-use Rattle.deal.proofs.Asked.{nothing-staked}
+use Rattle.money.proofs.sums.Capping.{nothing-staked}
 use Rattle.close_spec.specs.Void.{voidConditions}
 use Rattle.close.proofs.void.void_number.Statement.{statement}
 use Rattle.close.proofs.void.void_number.Tie as tie
