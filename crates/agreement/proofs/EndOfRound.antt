@@ -16,7 +16,6 @@ use Rattle.table.specs.declared.Seat.{Seat}
 use Rattle.table.specs.declared.Shoe.{Shoe}
 use Rattle.table.specs.declared.Table.{Table}
 use Rattle.table.specs.Seat.{missingSeat, purse, stake, insurance, sides, hands, laid, prizes}
-use Rattle.table.specs.Shoe.{isFresh}
 use Rattle.table.specs.Table.{seatAt}
 use Rattle.table.proofs.RoundEnd.{RoundEnd, cleared, roundEnded, cleared-laid, cleared-prizes, end-shaped, end-sound, end-money}
 use Rattle.history.specs.Entry.{Entry, isEnd}
@@ -25,6 +24,7 @@ use Rattle.history.specs.Cards.{Cards, makeCards, callTakes, bankAfter, cardsAf
 use Rattle.history.specs.Hands.{handsAfter}
 use Rattle.history.specs.Money.{laidEver, prizesEver, bought, cashed, endsBrought, endBrings, purseOf}
 use Rattle.agreement.specs.Aids.Agrees.{SeatAgrees, CardsAgree, Good}
+use Rattle.agreement.proofs.Fresh.{still-fresh}
 use Rattle.agreement.proofs.Groups.{InGroup, ofEnd, not-fill, not-credit, not-load, not-buy, not-cash, not-deal}
 use Rattle.agreement.proofs.Purse.{purse-law}
 use Rattle.agreement.proofs.Quiet.{lays-nothing, wins-nothing}
@@ -77,7 +77,6 @@ module _ (opening : List ℕ) (es : List Entry) (t : Table) (e : Entry) (tray : 
   pub record EndCall : Type 0 where
     pub ends : Ends e
     pub takes : callTakes (t .options) (stakedBelow es (t .options .seats)) (cardsOfHistory (t .options) opening es) e ≡ k
-    pub same-fresh : isFresh shoe ≡ isFresh (t .shoe)
     pub purses : (i : ℕ) → pos (purse-of (seatAt t i)) ≡ purseOf (t .options) opening (e ∷ es) i
 
   -- the history's cards after the call
@@ -103,7 +102,7 @@ module _ (opening : List ℕ) (es : List Entry) (t : Table) (e : Entry) (tray : 
                   (record {
                     order = ap (take (52 * t .options .decks)) (end .same-order) ∙ a .cards .order;
                     taken = end .more-drawn ∙ ap (λ (n : ℕ). n + k) (a .cards .taken);
-                    fresh = call .same-fresh ∙ a .cards .fresh;
+                    fresh = still-fresh (t .options) (t .shoe) shoe k (end .same-begun) (end .more-drawn) (end .drawn-before) ∙ a .cards .fresh;
                     bank = refl;
                   });
               dealt = sym (simp (q .is-end));

@@ -4,5 +4,6 @@ pub mod Groups
 pub mod Purse
 pub mod Quiet
 pub mod Events
+pub mod Fresh
 pub mod OneSeat
 pub mod EndOfRound

@@ -11,7 +11,7 @@ use Rattle.table.specs.declared.Seat.{Seat}
 use Rattle.table.specs.declared.Shoe.{Shoe}
 use Rattle.table.specs.declared.Table.{Table}
 use Rattle.table.specs.Seat.{missingSeat, hands}
-use Rattle.table.specs.Shoe.{isFresh}
+use Rattle.table.specs.Shoe.{burnsFirst}
 use Rattle.table.specs.Table.{makeTable, seatAt}
 use Rattle.table.specs.Money.{allMoney}
 use Rattle.options.proofs.Facts.{in-range-facts}
@@ -21,6 +21,7 @@ use Rattle.history.specs.Rounds.{stakedBelow}
 use Rattle.history.specs.Cards.{Cards, makeCards, callTakes, bankAfter, cardsAfter, cardsOfHistory}
 use Rattle.history.specs.Hands.{handsIn, firstIn}
 use Rattle.agreement.specs.Aids.Agrees.{SeatAgrees, CardsAgree, Agrees, Good}
+use Rattle.agreement.proofs.Fresh.{still-fresh}
 use Rattle.agreement.proofs.Quiet.{other-seat}
 use Rattle.agreement.proofs.Events.{Events, seat-events}
 
@@ -36,7 +37,6 @@ module _ (opening : List ℕ) (es : List Entry) (t : Table) (e : Entry) (j tray 
     pub takes : callTakes (t .options) (stakedBelow es (t .options .seats)) (cardsOfHistory (t .options) opening es) e ≡ k
     pub same-order : shoe .order ≡ t .shoe .order
     pub more-drawn : shoe .drawn ≡ t .shoe .drawn + k
-    pub same-fresh : isFresh shoe ≡ isFresh (t .shoe)
     pub others : (i : ℕ) → (i ≡ j → ⊥) → handsIn (t .options) opening (e ∷ es) i ≡ handsIn (t .options) opening es i
     pub first-others : (i : ℕ) → (i ≡ j → ⊥) → firstIn (t .options) opening (e ∷ es) i ≡ firstIn (t .options) opening es i
     pub events : Events e (hands (seatAt t j)) (hands s)
@@ -49,8 +49,8 @@ module _ (opening : List ℕ) (es : List Entry) (t : Table) (e : Entry) (j tray 
   unfolding cardsAfter bankAfter
   cards-after call c same = simp (call .not-load, call .not-deal, call .not-end, call .takes, same)
 
-  pub one-seat : length (t .seats) ≡ 9 → j < 9 → Agrees opening es t → SeatCall → Agrees opening (e ∷ es) after
-  one-seat nine within a call =
+  one-seat : length (t .seats) ≡ 9 → j < 9 → burnsFirst (t .options) shoe ≡ burnsFirst (t .options) (t .shoe) → Agrees opening es t → SeatCall → Agrees opening (e ∷ es) after
+  one-seat nine within same-burn a call =
       let c = cardsOfHistory (t .options) opening es in
       let now : cardsOfHistory (t .options) opening (e ∷ es) ≡ makeCards (c .order) (c .fresh) (c .taken + k) (c .bank) = cards-after call c refl in
       let (drew-now, decided-now) = seat-events t after j s refl (omega arith) e (call .events) in
@@ -60,7 +60,7 @@ module _ (opening : List ℕ) (es : List Entry) (t : Table) (e : Entry) (j tray 
             (record {
               order = ap (take (52 * t .options .decks)) (call .same-order) ∙ a .cards .order;
               taken = call .more-drawn ∙ ap (λ (n : ℕ). n + k) (a .cards .taken);
-              fresh = call .same-fresh ∙ a .cards .fresh;
+              fresh = same-burn ∙ a .cards .fresh;
               bank = a .cards .bank;
             });
         dealt = a .dealt ∙ sym (simp (call .not-end, call .not-deal));
@@ -85,5 +85,8 @@ module _ (opening : List ℕ) (es : List Entry) (t : Table) (e : Entry) (j tray 
       record {
         shaped = change-shaped t j tray s shoe k came went (g .shaped) (g .sound) change;
         sound = change-sound t j tray s shoe k came went (g .shaped) (g .sound) change;
-        agrees = one-seat (g .shaped .nine-seats) (omega (arith, change .within)) (g .agrees) call;
+        agrees =
+            one-seat (g .shaped .nine-seats) (omega (arith, change .within))
+            (still-fresh (t .options) (t .shoe) shoe k (change .same-begun) (change .more-drawn) (change .drawn-before))
+            (g .agrees) call;
       }

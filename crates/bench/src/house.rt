@@ -17,6 +17,7 @@ pub(crate) fn options_of(decks: u8) -> Options {
         insurance: 2,
         five: 1,
         prize: 1,
+        device: 1,
         cut,
         smallest: 2,
         largest: 1000,

@@ -43,7 +43,7 @@ unfolding run accepted
 run-good opening es t [] g = g
 run-good opening es t (e ∷ calls) g = run-good opening (known t e es) (next t (e .call) (e .order)) calls (next-good opening es t e g)
 
-run-options : (t : Table) (calls : List Entry) → run t calls .options ≡ t .options
+pub run-options : (t : Table) (calls : List Entry) → run t calls .options ≡ t .options
 unfolding run
 run-options t [] = refl
 run-options t (e ∷ calls) = run-options (next t (e .call) (e .order)) calls ∙ next-options t e

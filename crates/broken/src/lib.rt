@@ -6,7 +6,7 @@ mod seat;
 ghost use mathlib.Core.Path.{_≡_};
 ghost use mathlib.Core.Bool.{_&&_};
 ghost use Rattle.lists.specs.Below.{allBelow};
-ghost use Rattle.table.specs.Broken.{seatSound, soundBank, soundMoney, sound as isSound, broken as isBroken};
+ghost use Rattle.table.specs.Broken.{seatSound, soundBegun, soundBank, soundMoney, sound as isSound, broken as isBroken};
 ghost use Rattle.money.specs.Sums.{tableSums};
 ghost use Rattle.broken.specs.Aids.OfSeats.{OfSeats};
 use crate::seat::sound_seat;
@@ -15,9 +15,11 @@ use money::most_money::past_most_money;
 use money::sums::Sums;
 use money::sums::plus;
 use money::sums::seat_sums;
+use options::device::bank_at_deal;
 use options::in_range;
 use state::round::is_dealt;
 use state::round::up;
+use table::Shoe;
 use table::Table;
 
 // What one pass over the seats gives: whether each is sound, and, where each is, their sums.
@@ -52,13 +54,20 @@ fn surveyed(t: Table) -> Survey
     Survey { sound: true, sums }
 }
 
-// The bank has no card, or one in a round with a stake. `m`: the sums over the seats, worked out once.
+// Play has begun or not, and it has where a card is drawn.
+fn begun_sound(sh: Shoe) -> bool
+    ensures { λ r. ⌜ r ≡ soundBegun sh ⌝ }
+{
+    sh.begun <= 1 && (sh.drawn == 0 || sh.begun == 1)
+}
+
+// The bank has no card, or those of a deal in a round with a stake. `m`: the sums over the seats, worked out once.
 fn bank_sound(t: Table, m: Sums) -> bool
     requires { ⌜ m ≡ tableSums t ⌝ }
     ensures { λ r. ⌜ r ≡ soundBank t ⌝ }
 {
     let bank = t.bank;
-    bank.count == 0 || (bank.count == 1 && 0 < m.stakes)
+    bank.count == 0 || (bank.count == bank_at_deal(t.options) && 0 < m.stakes)
 }
 
 // All money is within the limit, and in a dealt round tray and prizes cover every stake, compared so that no sum wraps.
@@ -88,7 +97,7 @@ fn sound(t: Table) -> bool
     ensures { λ r. ⌜ r ≡ isSound t ⌝ }
 {
     let o = t.options;
-    in_range(o) && (cards_conserved(t) && seats_sound(t))
+    in_range(o) && (begun_sound(t.shoe) && (cards_conserved(t) && seats_sound(t)))
 }
 
 pub fn broken(t: Table) -> bool

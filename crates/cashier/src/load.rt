@@ -41,8 +41,9 @@ pub fn load(t: Table, order: &[u8]) -> Outcome
     if number != 0 {
         return Outcome { number, table: t };
     }
+    let old = t.shoe;
     Outcome {
         number,
-        table: with_shoe(t, new_shoe(order)),
+        table: with_shoe(t, new_shoe(order, old.begun)),
     }
 }

@@ -38,7 +38,7 @@ fn table_of(o: Options, shoe: Shoe) -> Table
 fn empty_table() -> Table
     ensures { λ r. ⌜ r ≡ emptyTable ⌝ }
 {
-    table_of(no_options(), new_shoe(&[0u8; 0]))
+    table_of(no_options(), new_shoe(&[0u8; 0], 0))
 }
 
 // The number of an opening: the conditions of its list, from the front.
@@ -61,6 +61,6 @@ pub fn opening(o: Options, order: &[u8]) -> Outcome
     }
     Outcome {
         number,
-        table: table_of(o, new_shoe(order)),
+        table: table_of(o, new_shoe(order, 0)),
     }
 }

@@ -10,15 +10,17 @@ use borrow.Author.Tests.{eq-eqb, not-false}
 use Rattle.lists.specs.Sum.{sumOf}
 use Rattle.lists.specs.Tests.{anyOf, allOf}
 use Rattle.lists.specs.Flat.{flat}
+use Rattle.lists.proofs.Tests.{cond-same}
 use Rattle.call.specs.Refusal.{first}
 use Rattle.call.proofs.Refusals.{none-hold}
 use Rattle.options.specs.declared.Options.{Options}
+use Rattle.options.specs.Device.{isMachine}
 use Rattle.options.specs.Ranges.{inRange}
 use Rattle.options.proofs.Facts.{in-range-facts}
 use Rattle.rules.specs.declared.seat_hand.SeatHand.{SeatHand}
 use Rattle.rules.specs.Drew.{seatDrew}
 use Rattle.table.specs.Seat.{emptySeat, missingSeat, missingPlace, emptyPlace, laid, prizes}
-use Rattle.table.specs.Shoe.{validOrder}
+use Rattle.table.specs.Shoe.{validOrder, burnsFirst}
 use Rattle.table.specs.Table.{seatAt, isDealt, up}
 use Rattle.table.specs.Progress.{anyDrew, anyDecided}
 use Rattle.table.specs.Shape.{Shaped, ShapedSeat}
@@ -87,7 +89,7 @@ module _ (o : Options) (order : List ℕ) (a : OpeningAccepted o order) where
         nine-seats = refl;
         seats = λ i h. subst ShapedSeat (sym (empty-at i h)) empty-shaped;
         bank = refl;
-        order = loaded-length (o .decks) order (a .valid) (omega (arith, in-range-facts o (a .in-range) .decks-most));
+        order = loaded-length (o .decks) order (a .valid) 0 (omega (arith, in-range-facts o (a .in-range) .decks-most));
         discards = length-replicate {A = ℕ} 416 0;
       }
 
@@ -96,7 +98,9 @@ module _ (o : Options) (order : List ℕ) (a : OpeningAccepted o order) where
   open-sound =
       record {
         options = a .in-range;
-        valid = subst (λ (cards : List ℕ). validOrder (o .decks) cards ≡ true) (sym (loaded (o .decks) order (a .valid))) (a .valid);
+        begun = omega arith;
+        begun-drawn = λ some. absurd (omega arith);
+        valid = subst (λ (cards : List ℕ). validOrder (o .decks) cards ≡ true) (sym (loaded (o .decks) order (a .valid) 0)) (a .valid);
         drawn = omega arith;
         discarded = omega arith;
         discarded-drawn = omega arith;
@@ -104,17 +108,17 @@ module _ (o : Options) (order : List ℕ) (a : OpeningAccepted o order) where
         faces = λ b h. refl;
         number = refl;
         seats = λ i h. subst (SoundSeat o (isDealt (openTable o order)) (up (openTable o order)) i) (sym (empty-at i h)) (empty-sound o order i);
-        bank = omega arith;
+        bank = λ some. absurd (omega arith);
         round = λ dealt. absurd (true≢false (sym dealt));
         money = omega arith;
         cover = λ dealt. absurd (true≢false (sym dealt));
       }
 
   open-agrees : Agrees order [] (openTable o order)
-  unfolding sumOf laid anyDrew anyDecided seatDrew anyOf
+  unfolding sumOf laid anyDrew anyDecided seatDrew anyOf burnsFirst
   open-agrees =
       record {
-        cards = record { order = loaded (o .decks) order (a .valid); taken = refl; fresh = refl; bank = refl };
+        cards = record { order = loaded (o .decks) order (a .valid) 0; taken = refl; fresh = cond-same (isMachine o) true; bank = refl };
         dealt = refl;
         seats = λ i. seat-agrees o order i;
         drew = refl;

@@ -20,8 +20,8 @@ module _ (decks : ℕ) (order : List ℕ) (valid : validOrder decks order ≡ tr
       let (long, cards) = and-eq-true-iff (eqb (length order) (52 * decks)) _ .0 both in
       eqb-true (length order) (52 * decks) long
 
-  pub loaded : take (52 * decks) (newShoe order .order) ≡ order
-  loaded = take-at order (replicate (416 - length order) 0) (52 * decks) valid-length
+  pub loaded : (begun : ℕ) → take (52 * decks) (newShoe begun order .order) ≡ order
+  loaded begun = take-at order (replicate (416 - length order) 0) (52 * decks) valid-length
 
-  pub loaded-length : 52 * decks ≤ 416 → length (newShoe order .order) ≡ 416
-  loaded-length room = length-append order (replicate (416 - length order) 0) ∙ omega (arith, length-replicate {A = ℕ} (416 - length order) 0, valid-length)
+  pub loaded-length : (begun : ℕ) → 52 * decks ≤ 416 → length (newShoe begun order .order) ≡ 416
+  loaded-length begun room = length-append order (replicate (416 - length order) 0) ∙ omega (arith, length-replicate {A = ℕ} (416 - length order) 0, valid-length)

@@ -97,6 +97,8 @@ module _ {t : Table} {j : ℕ} {m : Money} {came went : ℕ} (moves : PurseMoves
         same-discards = refl;
         same-discarded = refl;
         more-drawn = omega arith;
+        same-begun = refl;
+        drawn-before = λ some. absurd (omega arith);
         enough = omega (arith, sound .drawn);
         cards-moved = λ w. omega arith;
       }
@@ -168,7 +170,6 @@ module _ {opening : List ℕ} {es : List Entry} {t : Table} {j : ℕ} {m : Money
         takes = simp (not-deal e (told .among) refl, not-draw e (told .among) refl, not-double e (told .among) refl, not-split e (told .among) refl, not-close e (told .among) refl);
         same-order = refl;
         more-drawn = omega arith;
-        same-fresh = refl;
         others = λ i other. same-hands i;
         first-others = λ i other. same-first i;
         events = no-event e (hands (seatAt t j)) (not-decision e (told .among) refl);

@@ -28,6 +28,8 @@ module _ {t : Table} {tray came went : ℕ} (moves : TrayMoves t tray came went)
     record { nine-seats = shaped .nine-seats; seats = shaped .seats; bank = shaped .bank; order = shaped .order; discards = shaped .discards },
     record {
       options = sound .options;
+      begun = sound .begun;
+      begun-drawn = sound .begun-drawn;
       valid = sound .valid;
       drawn = sound .drawn;
       discarded = sound .discarded;

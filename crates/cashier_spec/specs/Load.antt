@@ -15,4 +15,4 @@ unfoldable pub loadConditions : Table → List ℕ → List Condition
 loadConditions t order = (1, broken t) ∷ (3, not (validOrder (t .options .decks) order)) ∷ betweenRounds t ∷ []
 
 unfoldable pub loadEffect : Table → List ℕ → Table
-loadEffect t order = withShoe t (newShoe order)
+loadEffect t order = withShoe t (newShoe (t .shoe .begun) order)

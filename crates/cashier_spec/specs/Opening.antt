@@ -20,7 +20,7 @@ openConditions o order = (2, not (inRange o)) ∷ (3, not (validOrder (o .decks)
 
 -- An accepted opening: nine empty seats, a bank with no card, the order loaded.
 abbrev pub openTable : Options → List ℕ → Table
-openTable o order = makeTable o 0 (replicate 9 emptySeat) emptyHand (newShoe order)
+openTable o order = makeTable o 0 (replicate 9 emptySeat) emptyHand (newShoe 0 order)
 
 -- A refused opening gives the empty table: no seats, cards or money.
 abbrev pub emptyTable : Table

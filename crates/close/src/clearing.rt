@@ -11,13 +11,14 @@ use shoe::with_drawn;
 use table::Shoe;
 use table::Table;
 
-// The burnt card and the bank's, of which the up card lay there, are drawn too. It asks for what an accepted close knows.
+// The burnt card and the bank's, but for those that it had, are drawn too. It asks for what an accepted close knows.
 pub(crate) fn closed_shoe(t: Table, bank: Hand) -> Shoe
     requires { ⌜ Closes t bank ⌝ }
     ensures { λ r. ⌜ r ≡ discardDrawn (withDrawn (t .shoe) (closeTakes t)) ⌝ }
 {
     let o = t.options;
     let burnt = bank_burn(o);
-    let drawn = with_drawn(t.shoe, burnt + held(bank) - 1);
+    let had = held(t.bank);
+    let drawn = with_drawn(t.shoe, burnt + held(bank) - had);
     discard_drawn(drawn)
 }

@@ -18,6 +18,8 @@ use Rattle.cards.specs.Total.{total, lowSum}
 use Rattle.cards.proofs.total.Bounds.{total-le}
 use Rattle.payment.specs.Bank.{mustDraw}
 use Rattle.options.specs.declared.Options.{Options}
+use Rattle.options.specs.Device.{isBox}
+use Rattle.options.specs.Aids.Facts.{InRange}
 use Rattle.history.specs.Cards.{Cards, makeCards, bankMore, bankTaken, bankFinal, closeBurns}
 use Rattle.close_spec.specs.BankDraw.{bankBurn, bankTakes}
 
@@ -63,19 +65,25 @@ total-one card = go (isAce card) refl
     go true ace = ace-total card ace
     go false none = other-total card none
 
--- the bank's cards after a card before it, its burn and those behind: the first of them is its second card
-pub bank-final : (up : ℕ) (rest : List ℕ) → mustDraw (bankTakes (up ∷ []) rest) ≡ false
-    → (bankTakes (up ∷ []) rest ≡ (up ∷ []) ++ take (suc (bankMore ((up ∷ []) ++ take 1 rest) (drop 1 rest))) rest)
-    × (suc (bankMore ((up ∷ []) ++ take 1 rest) (drop 1 rest)) ≤ length rest)
-unfolding bankTakes mustDraw
-bank-final up [] stands = absurd (true≢false (sym (le-leb (total (up ∷ [])) 16 (total-one up)) ∙ stands))
-bank-final up (card ∷ rest) stands =
-    (simp (le-leb (total (up ∷ [])) 16 (total-one up)) (bank-takes (up ∷ card ∷ []) rest), omega (arith, bank-more-most (up ∷ card ∷ []) rest))
+-- the history counts the second card of a bank that has one by itself: it always comes
+counts-same : (box : Bool) (bank rest : List ℕ) → (box ≡ false → length bank ≡ 1) → mustDraw (bankTakes bank rest) ≡ false
+    → cond box (bankMore bank rest) (suc (bankMore (bank ++ take 1 rest) (drop 1 rest))) ≡ bankMore bank rest
+unfolding bankTakes bankMore mustDraw
+counts-same true bank rest one stands = refl
+counts-same false [] rest one stands = absurd (omega (arith, one refl))
+counts-same false (up ∷ []) [] one stands = absurd (true≢false (sym (le-leb (total (up ∷ [])) 16 (total-one up)) ∙ stands))
+counts-same false (up ∷ []) (card ∷ rest) one stands = sym (simp (le-leb (total (up ∷ [])) 16 (total-one up)))
+counts-same false (up ∷ x ∷ xs) rest one stands = absurd (omega (arith, one refl))
 
--- the same from the history's cards
-module _ (o : Options) (order : List ℕ) (fresh : Bool) (drawn up : ℕ) where
+-- the box takes no later burn, so none before the bank's cards
+pub box-burns-none : (o : Options) → InRange o → isBox o ≡ true → bankBurn o ≡ 0
+unfolding bankBurn
+box-burns-none o f box = rw (f .box-later box)
+
+-- the same from the history's cards: of a bank that has one card, and of the box's
+module _ (o : Options) (order : List ℕ) (fresh : Bool) (drawn : ℕ) (bank : List ℕ) where
   abbrev pub known : Cards
-  known = makeCards order fresh drawn (up ∷ [])
+  known = makeCards order fresh drawn bank
 
   abbrev behind : List ℕ
   behind = drop (bankBurn o) (drop drawn order)
@@ -87,15 +95,18 @@ module _ (o : Options) (order : List ℕ) (fresh : Bool) (drawn up : ℕ) where
   rest-same : drop (drawn + closeBurns o) order ≡ behind
   rest-same = sym (rw burns-same (drop-drop (closeBurns o) drawn order))
 
-  pub bank-same : mustDraw (bankTakes (up ∷ []) behind) ≡ false → bankTakes (up ∷ []) behind ≡ bankFinal o known
-  unfolding bankFinal bankTaken
-  bank-same stands = rw rest-same (bank-final up behind stands .0)
+  module _ (one : isBox o ≡ false → length bank ≡ 1) (stands : mustDraw (bankTakes bank behind) ≡ false) where
+    counted : bankTaken o known ≡ bankMore bank behind
+    unfolding bankTaken
+    counted = rw rest-same (counts-same (isBox o) bank behind one stands)
 
-  pub bank-enough : mustDraw (bankTakes (up ∷ []) behind) ≡ false → bankTaken o known ≤ length behind
-  unfolding bankTaken
-  bank-enough stands = rw rest-same (bank-final up behind stands .1)
+    pub bank-enough : bankTaken o known ≤ length behind
+    bank-enough = omega (arith, counted, bank-more-most bank behind)
 
-  -- the bank's new cards
-  pub bank-new : mustDraw (bankTakes (up ∷ []) behind) ≡ false → bankTakes (up ∷ []) behind ≡ (up ∷ []) ++ take (bankTaken o known) behind
-  unfolding bankTaken
-  bank-new stands = rw rest-same (bank-final up behind stands .0)
+    -- the bank's new cards
+    pub bank-new : bankTakes bank behind ≡ bank ++ take (bankTaken o known) behind
+    bank-new = rw counted (bank-takes bank behind)
+
+    pub bank-same : bankTakes bank behind ≡ bankFinal o known
+    unfolding bankFinal
+    bank-same = rw rest-same bank-new

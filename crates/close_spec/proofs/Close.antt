@@ -8,7 +8,7 @@ use native.Mathlib.Decide.{decLe}
 use native.Mathlib.Omega.{arith}
 use lib.IntN.{pos}
 use lib.ListN.{length, getD, List·getD-eq-default}
-use borrow.Author.Tests.{not-false, ne-eqb}
+use borrow.Author.Tests.{not-false}
 use Rattle.lists.specs.Sum.{sumOf}
 use Rattle.lists.specs.Tests.{allOf}
 use Rattle.lists.proofs.Sums.{sum-plus}
@@ -26,8 +26,8 @@ use Rattle.rules.specs.Turn.{someWaits}
 use Rattle.table.specs.declared.Seat.{Seat}
 use Rattle.table.specs.declared.Table.{Table}
 use Rattle.table.specs.Seat.{missingSeat, purse, stake, insurance, sides, hands, firstCards, betsOf, laid}
-use Rattle.table.specs.Shoe.{withDrawn, discardDrawn, isFresh}
-use Rattle.table.specs.Table.{seatAt, seatsHands, isDealt, up, tableOrder}
+use Rattle.table.specs.Shoe.{withDrawn, discardDrawn, burnsFirst}
+use Rattle.table.specs.Table.{seatAt, seatsHands, isDealt, up, bankCards, tableOrder}
 use Rattle.table.specs.Money.{layout}
 use Rattle.table.specs.Shape.{Shaped}
 use Rattle.table.specs.Aids.Sound.{Sound, SoundSeat, HoldsNothing}
@@ -45,7 +45,7 @@ use Rattle.close_spec.specs.BankDraw.{bankAtClose, closeTakes}
 use Rattle.close_spec.specs.PayLines.{seatPays}
 use Rattle.close_spec.specs.Close.{closeConditions, closeScore, seatBack, closeEffect}
 use Rattle.close_spec.proofs.BankDraw.{burns-same}
-use Rattle.close_spec.proofs.Taken.{cardsAt, one-bank, final-same, takes, enough}
+use Rattle.close_spec.proofs.Taken.{cardsAt, final-same, takes, enough}
 use Rattle.close_spec.proofs.Back.{laid-wagers}
 use Rattle.close_spec.proofs.Tray.{dealt-seat, tray-pays}
 
@@ -91,6 +91,8 @@ module _ (t : Table) (shaped : Shaped t) (ok : CloseAccepted t) where
         nothing-stays = nothing-paid;
         same-order = refl;
         more-drawn = refl;
+        same-begun = refl;
+        drawn-before = λ some. dealt-drawn t (ok .sound) (ok .dealt);
         enough = enough t (ok .sound) (ok .dealt) (ok .stands);
         all-discards = refl;
         all-discarded = refl;
@@ -129,7 +131,7 @@ module _ (opening : List ℕ) (es : List Entry) (t : Table) (order : List ℕ) (
   cards-are : cardsOfHistory (t .options) opening es ≡ cardsAt t
   cards-are =
       let a = g .agrees .cards in
-      λ i. makeCards (sym (a .order) i) (sym (a .fresh) i) (sym (a .taken) i) ((sym (a .bank) ∙ one-bank t (g .sound) (ok .dealt) (ok .stands)) i)
+      λ i. makeCards (sym (a .order) i) (sym (a .fresh) i) (sym (a .taken) i) (sym (a .bank) i)
 
   score-is : closingScore (t .options) opening es ≡ closeScore t
   score-is = ap scoreOf (ap (bankFinal (t .options)) cards-are ∙ sym (final-same t (g .sound) (ok .dealt) (ok .stands)))
@@ -176,8 +178,7 @@ module _ (opening : List ℕ) (es : List Entry) (t : Table) (order : List ℕ) (
   call =
       record {
         ends = closes;
-        takes = omega (arith, ap (bankTaken (t .options)) cards-are, takes t (g .sound) (ok .dealt) (ok .stands), burns-same (t .options) (tableOrder t) (isFresh (t .shoe)) (t .shoe .drawn) (up t));
-        same-fresh = ne-eqb (t .shoe .drawn + closeTakes t) 0 (λ z. omega (arith, dealt-drawn t (g .sound) (ok .dealt))) ∙ sym (ne-eqb (t .shoe .drawn) 0 (λ z. omega (arith, dealt-drawn t (g .sound) (ok .dealt))));
+        takes = omega (arith, ap (bankTaken (t .options)) cards-are, takes t (g .sound) (ok .dealt) (ok .stands), burns-same (t .options) (tableOrder t) (burnsFirst (t .options) (t .shoe)) (t .shoe .drawn) (bankCards t));
         purses = purses;
       }
 

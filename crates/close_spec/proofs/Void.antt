@@ -83,6 +83,8 @@ round-end t shaped sound =
       nothing-stays = nothing-back (t .options);
       same-order = refl;
       more-drawn = omega arith;
+      same-begun = refl;
+      drawn-before = λ some. absurd (omega arith);
       enough = omega (arith, sound .drawn);
       all-discards = refl;
       all-discarded = refl;
@@ -108,7 +110,7 @@ module _ (opening : List ℕ) (es : List Entry) (t : Table) (order : List ℕ) (
   -- the history's call
   void-call : EndCall opening es t (entry Void order) (voidEffect t .tray) (purseBack (t .options)) (voidEffect t .shoe) 0
   unfolding callTakes voidEffect
-  void-call = record { ends = void-ends order; takes = refl; same-fresh = refl; purses = purse-back }
+  void-call = record { ends = void-ends order; takes = refl; purses = purse-back }
 
 pub void-good : (opening : List ℕ) (es : List Entry) (t : Table) (order : List ℕ) → Good opening es t → first (voidConditions t) ≡ 0 → Good opening (entry Void order ∷ es) (voidEffect t)
 unfolding voidEffect

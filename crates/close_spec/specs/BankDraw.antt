@@ -1,5 +1,5 @@
 -- Document 01, close: bank's burn if the option is 2, the bank's second card, then cards while its total is 16 or less, even if every hand is bust
--- (articles 4 and 6).
+-- (articles 4 and 6). The box's bank has its second card from the deal, so that close draws only what follows, perhaps nothing (request 2.7).
 use mathlib.Core.Bool.{cond}
 use mathlib.Core.List.{List, [], _∷_, _++_}
 use Prim.Native.Nat.{ℕ, _+_, _-_}

@@ -10,12 +10,12 @@ use Rattle.table.specs.Broken.{broken}
 use Rattle.money.specs.declared.sums.Sums.{Sums}
 use Rattle.money.specs.Sums.{tableSums}
 use Rattle.money.proofs.sums.Capping.{nothing-staked}
-use Rattle.deal_spec.specs.Deal.{dealTakes, dealConditions}
+use Rattle.deal_spec.specs.Deal.{dealTakes, loadDue, dealConditions}
 
 -- of a table that is not broken
-pub deal-asked : (t : Table) {dealt : Bool} {m : Sums} {left takes : ℕ} → broken t ≡ false → dealt ≡ isDealt t → m ≡ tableSums t → left ≡ cardsLeft t → takes ≡ dealTakes t
-    → asked 4 dealt (asked 6 (eqb (m .stakes) 0) (asked 16 (ltb (t .tray) (m .cover)) (asked 17 (leb left (t .options .cut)) (asked 17 (ltb left takes) 0))))
+pub deal-asked : (t : Table) {dealt : Bool} {m : Sums} {due : Bool} {left takes : ℕ} → broken t ≡ false → dealt ≡ isDealt t → m ≡ tableSums t → due ≡ loadDue (t .options) (t .shoe) → left ≡ cardsLeft t → takes ≡ dealTakes t
+    → asked 4 dealt (asked 6 (eqb (m .stakes) 0) (asked 16 (ltb (t .tray) (m .cover)) (asked 17 due (asked 17 (leb left (t .options .cut)) (asked 17 (ltb left takes) 0)))))
     ≡ first (dealConditions t)
 unfolding dealConditions first
-deal-asked t {dealt} {m} {left} {takes} whole is-dealt sums is-left is-takes =
-    rw (whole, is-dealt, is-left, is-takes, ← nothing-staked t m sums, sums)
+deal-asked t {dealt} {m} {due} {left} {takes} whole is-dealt sums is-due is-left is-takes =
+    rw (whole, is-dealt, is-due, is-left, is-takes, ← nothing-staked t m sums, sums)

@@ -14,8 +14,8 @@ use Rattle.lists.specs.Tests.{anyOf}
 use Rattle.lists.proofs.Below.{sum-below-same, sum-below-more}
 use Rattle.call.specs.declared.Call.the-variants.{Deal}
 use Rattle.call.specs.Refusal.{first}
-use Rattle.cards.specs.Hand.{withCard}
 use Rattle.options.specs.declared.Options.{Options}
+use Rattle.options.specs.Device.{isBox, isMachine, bankAtDeal}
 use Rattle.options.specs.Aids.Facts.{InRange}
 use Rattle.rules.specs.SeatHand.{Played, dealt, notEnded, hasTwoCards}
 use Rattle.rules.specs.Drew.{seatDrew}
@@ -23,8 +23,8 @@ use Rattle.table.specs.declared.Money.{Money}
 use Rattle.table.specs.declared.Shoe.{Shoe}
 use Rattle.table.specs.declared.Table.{Table}
 use Rattle.table.specs.Seat.{missingSeat, purse, stake, insurance, isStaked, hands, firstCards}
-use Rattle.table.specs.Shoe.{isFresh}
-use Rattle.table.specs.Table.{seatAt}
+use Rattle.table.specs.Shoe.{burnsFirst}
+use Rattle.table.specs.Table.{seatAt, bankCards}
 use Rattle.table.specs.Progress.{anyDrew, anyDecided}
 use Rattle.table.proofs.Facts.{sound-options, no-hands, no-prizes}
 use Rattle.table.specs.Shape.{Shaped}
@@ -40,15 +40,16 @@ use Rattle.agreement.proofs.Purse.{purse-moves}
 use Rattle.agreement.proofs.Quiet.{sides-stay}
 use Rattle.agreement.proofs.Events.{seatDecided, nobody-decided}
 use Rattle.deal_spec.specs.Burn.{firstBurn, laterBurn, burnAtDeal}
-use Rattle.deal_spec.specs.Deal.{stakedSeats, burnt, dealTakes, dealtSeats, upCard, dealConditions, dealEffect}
+use Rattle.deal_spec.specs.Deal.{stakedSeats, burnt, dealTakes, dealtSeats, upCard, hiddenCard, dealConditions, dealEffect}
 use Rattle.lists.proofs.Parts.{sum-first, sum-before}
 use Rattle.lists.proofs.Tests.{cond-same}
 use Rattle.deal_spec.proofs.DealAccepted.{DealAccepted, deal-accepted}
+use Rattle.deal_spec.proofs.DealtBank.{some-at-deal, bank-cards}
 use Rattle.deal_spec.proofs.DealtSeat.{dealt-hands, dealt-first}
-use Rattle.deal_spec.proofs.DealSound.{firstPlace, secondPlace, stakedBefore, firstOf, secondOf, dealtAt, past, no-hand-yet, staked-nine, dealt-either, laid-after, prizes-after, deal-money, deal-shaped, deal-sound}
+use Rattle.deal_spec.proofs.DealSound.{firstPlace, secondPlace, stakedBefore, firstOf, secondOf, dealtAt, past, no-hand-yet, staked-nine, dealt-either, laid-after, prizes-after, now-dealt, deal-money, deal-shaped, deal-sound}
 
 -- the burn, as the history says it
-same-burn : (o : Options) (sh : Shoe) (c : Cards) → InRange o → isFresh sh ≡ c .fresh → burnAtDeal o sh ≡ dealBurns o c
+same-burn : (o : Options) (sh : Shoe) (c : Cards) → InRange o → burnsFirst o sh ≡ c .fresh → burnAtDeal o sh ≡ dealBurns o c
 unfolding burnAtDeal dealBurns
 same-burn o sh c f fresh = rw fresh (ap₂ (λ (a b : ℕ). cond (c .fresh) a b) (at-first (decLe (o .first) 1)) (later (decLe (o .later) 0)))
   where
@@ -102,17 +103,49 @@ module _ (opening : List ℕ) (es : List Entry) (t : Table) (order : List ℕ) (
       ∙ ap₂ (λ (xs : List ℕ) (k : ℕ). getD xs k 0) (g .agrees .cards .order) same
 
   takes-are : dealTakes t ≡ callTakes (t .options) (stakedBelow es (t .options .seats)) c e
-  unfolding dealTakes callTakes
+  unfolding dealTakes callTakes bankAtDeal
   takes-are = omega (arith, burn-is, staked-is)
 
+  -- a deal was accepted, and something is drawn
+  now-later : burnsFirst (t .options) (dealEffect t .shoe) ≡ false
+  unfolding dealEffect burnsFirst dealTakes
+  now-later = go (isMachine (t .options))
+    where
+      go : (machine : Bool) → cond machine false (eqb (t .shoe .drawn + dealTakes t) 0) ≡ false
+      go true = refl
+      go false = ne-eqb (t .shoe .drawn + dealTakes t) 0 (λ none. omega (arith, some-at-deal (t .options)))
+
+  up-is : upCard t ≡ getD (c .order) (c .taken + dealBurns (t .options) c + stakedBelow es (t .options .seats)) 0
+  unfolding upCard dealTakes
+  up-is =
+      card-is (firstPlace t + stakedSeats (t .seats)) (c .taken + dealBurns (t .options) c + stakedBelow es (t .options .seats))
+      (omega (arith, burn-is, staked-is, g .agrees .cards .taken)) (omega (arith, some-at-deal (t .options)))
+
+  -- the box's second card is the last that the deal takes
+  hidden-is : isBox (t .options) ≡ true → hiddenCard t ≡ getD (c .order) (c .taken + dealBurns (t .options) c + 2 * stakedBelow es (t .options .seats) + 1) 0
+  unfolding hiddenCard dealTakes bankAtDeal
+  hidden-is box =
+      let two : bankAtDeal (t .options) ≡ 2 = rw box in
+      card-is (firstPlace t + 2 * stakedSeats (t .seats) + 1) (c .taken + dealBurns (t .options) c + 2 * stakedBelow es (t .options .seats) + 1)
+      (omega (arith, burn-is, staked-is, g .agrees .cards .taken)) (omega arith)
+
+  bank-is : bankCards (dealEffect t) ≡ bankAfter (t .options) (stakedBelow es (t .options .seats)) c e
+  unfolding dealEffect bankAfter
+  bank-is = bank-cards (t .options) (upCard t) (hiddenCard t) ∙ ap₂ (λ (x : ℕ) (xs : List ℕ). x ∷ xs) up-is (go (isBox (t .options)) refl)
+    where
+      go : (box : Bool) → isBox (t .options) ≡ box
+          → cond box (hiddenCard t ∷ []) [] ≡ cond box (getD (c .order) (c .taken + dealBurns (t .options) c + 2 * stakedBelow es (t .options .seats) + 1) 0 ∷ []) []
+      go true box = ap (λ (x : ℕ). x ∷ []) (hidden-is box)
+      go false box = refl
+
   cards-agree : CardsAgree (cardsOfHistory (t .options) opening (e ∷ es)) (dealEffect t)
-  unfolding dealEffect cardsAfter bankAfter withCard upCard dealTakes
+  unfolding dealEffect cardsAfter
   cards-agree =
       record {
         order = g .agrees .cards .order;
         taken = ap₂ (λ (a b : ℕ). a + b) (g .agrees .cards .taken) takes-are;
-        fresh = ne-eqb (t .shoe .drawn + dealTakes t) 0 (λ none. omega arith);
-        bank = ap (λ (card : ℕ). card ∷ []) (card-is (firstPlace t + stakedSeats (t .seats)) (c .taken + dealBurns (t .options) c + stakedBelow es (t .options .seats)) (omega (arith, burn-is, staked-is, g .agrees .cards .taken)) (omega arith));
+        fresh = now-later;
+        bank = bank-is;
       }
 
   -- the hand of a staked seat
@@ -127,7 +160,7 @@ module _ (opening : List ℕ) (es : List Entry) (t : Table) (order : List ℕ) (
       let first-card = card-is (firstPlace t + stakedBefore t i) (c .taken + dealBurns (t .options) c + stakedBelow es i) (omega (arith, burn-is, g .agrees .cards .taken)) (omega arith) in
       let second-card =
       card-is (secondPlace t + stakedBefore t i) (c .taken + dealBurns (t .options) c + stakedBelow es (t .options .seats) + 1 + stakedBelow es i)
-      (omega (arith, burn-is, staked-is, g .agrees .cards .taken)) (omega arith) in
+      (omega (arith, burn-is, staked-is, g .agrees .cards .taken)) (omega (arith, some-at-deal (t .options))) in
       rw there
       (dealt-hands (seatAt t i) (g .shaped .seats i within .four-places) (firstOf t i) (secondOf t i)
       ∙ ap₂ (λ (x y : ℕ). played (x ∷ y ∷ []) dealt notEnded ∷ []) first-card second-card)
@@ -194,11 +227,11 @@ module _ (opening : List ℕ) (es : List Entry) (t : Table) (order : List ℕ) (
   undecided-after = nobody-decided (dealEffect t) (λ i h. ap seatDecided (seat-agrees i .hands-are) ∙ fresh-hands i)
 
   deal-agrees : Agrees opening (e ∷ es) (dealEffect t)
-  unfolding dealEffect withCard
+  unfolding dealEffect
   deal-agrees =
       record {
         cards = cards-agree;
-        dealt = refl;
+        dealt = now-dealt t (g .shaped) ok;
         seats = seat-agrees;
         drew = undecided-after .0 ∙ sym (undecided-before .0) ∙ g .agrees .drew;
         decided = undecided-after .1 ∙ sym (undecided-before .1) ∙ g .agrees .decided;

@@ -1,27 +1,28 @@
--- The table after an accepted deal is sound: each staked seat has one hand of two cards, the bank one card, and the burnt cards are discards.
+-- The table after an accepted deal is sound: each staked seat has one hand of two cards, the bank the cards that the device gives it, and the burnt cards are
+-- discards.
 use mathlib.Core.Path.{_≡_, refl, sym, _∙_, ap, ap₂}
-use mathlib.Core.Bool.{true, false, cond, true≢false}
-use mathlib.Core.List.{List, _++_}
+use mathlib.Core.Bool.{Bool, true, false, cond, true≢false}
+use mathlib.Core.List.{List, [], _∷_, _++_}
 use Prim.Native.Nat.{ℕ, suc, _+_, _*_, _≤_, _<_}
 use native.Mathlib.Decide.{decLe}
 use native.Mathlib.Omega.{arith}
 use lib.Dec.{ltb}
 use lib.ListN.{length, take, drop, getD, length-take, length-drop, List·getD-eq-default}
 use lib.Seq.{take-add, length-sets}
-use borrow.Author.Tests.{ltb-true, ltb-false}
+use borrow.Author.Tests.{ltb-true, ltb-false, lt-ltb}
 use Rattle.lists.specs.Sum.{sumOf, isIt}
 use Rattle.lists.specs.Tests.{anyOf}
 use Rattle.lists.specs.Flat.{flat}
 use Rattle.lists.proofs.Sums.{sum-append, sum-flat, sum-none, sum-ones, sum-take}
 use Rattle.lists.proofs.Places.{same-taken, taken-same}
-use Rattle.cards.specs.Hand.{withCard}
+use Rattle.options.specs.Device.{isBox, bankAtDeal}
 use Rattle.payment.specs.Cover.{cover as coverOf, sideCover}
 use Rattle.payment.specs.Bets.{allSides}
 use Rattle.table.specs.declared.Money.{Money}
 use Rattle.table.specs.declared.Seat.{Seat}
 use Rattle.table.specs.declared.Table.{Table}
 use Rattle.table.specs.Seat.{missingSeat, purse, stake, insurance, sides, isStaked, laid, prizes, seatCards}
-use Rattle.table.specs.Table.{seatAt, up, handCards, bankCards, tableDrawn, tableShoe, tableDiscards}
+use Rattle.table.specs.Table.{seatAt, isDealt, up, handCards, bankCards, tableDrawn, tableShoe, tableDiscards}
 use Rattle.table.specs.Money.{allMoney}
 use Rattle.table.specs.Faces.{outCards}
 use Rattle.table.specs.Shape.{Shaped, ShapedSeat}
@@ -29,10 +30,11 @@ use Rattle.table.specs.Aids.Sound.{Sound, SoundSeat}
 use Rattle.table.proofs.Facts.{sound-options, decks-416, room-discards, laid-stake, no-prizes, no-hands}
 use Rattle.table.proofs.SeatChange.{sum-out}
 use Rattle.deal_spec.specs.Pass.{pass, firstCard, secondCard}
-use Rattle.deal_spec.specs.Deal.{stakedSeats, burnt, dealTakes, dealtSeats, upCard, dealEffect}
+use Rattle.deal_spec.specs.Deal.{stakedSeats, burnt, dealTakes, dealtSeats, upCard, hiddenCard, dealEffect}
 use Rattle.lists.proofs.Parts.{any-map, part-of-take, sum-places, sum-more}
 use Rattle.lists.proofs.Stores.{sets-taken}
 use Rattle.deal_spec.proofs.DealAccepted.{DealAccepted}
+use Rattle.deal_spec.proofs.DealtBank.{some-at-deal, bank-cards, bank-count, bank-length}
 use Rattle.deal_spec.proofs.Pass.{pass-view, pass-length, pass-money, pass-either, pass-staked, pass-cards}
 use Rattle.deal_spec.proofs.DealtSeat.{dealtSeat, both-cards, first-cards, second-cards, dealt-laid, dealt-prizes, dealt-shaped, dealt-sound}
 
@@ -74,6 +76,28 @@ four-parts w order d b S K room full =
       ap (λ (n : ℕ). sumOf w (take n order)) one,
       sum-more w order (d + b + S + 1) S,
       ap (λ (n : ℕ). sumOf w (take n order)) end,
+    )
+
+-- and one more with the box: what is summed over the bank's cards, of which the up card lies between the two passes
+five-parts : (w : ℕ → ℕ) (order : List ℕ) (d b S K : ℕ) (box : Bool) → d + (b + 2 * S + cond box 2 1) ≤ K → K ≤ length order
+    → sumOf w (take (b + 2 * S + cond box 2 1) (drop d (take K order)))
+    ≡ sumOf w (take b (drop d (take K order))) + sumOf w (take S (drop (d + b) order)) + sumOf w (take S (drop (d + b + S + 1) order))
+    + sumOf w (getD order (d + b + S) 0 ∷ cond box (getD order (d + b + 2 * S + 1) 0 ∷ []) [])
+unfolding sumOf
+five-parts w order d b S K false room full = omega (arith, four-parts w order d b S K room full)
+five-parts w order d b S K true room full =
+    let one : d + (b + 2 * S + 2) ≡ suc (d + b + 2 * S + 1) = omega arith in
+    let before : d + (b + 2 * S + 1) ≡ d + b + 2 * S + 1 = omega arith in
+    omega (
+      arith,
+      four-parts w order d b S K (omega arith) full,
+      ap (sumOf w) (part-of-take (b + 2 * S + 1) d K order (omega arith)),
+      ap (sumOf w) (part-of-take (b + 2 * S + 2) d K order room),
+      sum-more w order d (b + 2 * S + 1),
+      sum-more w order d (b + 2 * S + 2),
+      ap (λ (n : ℕ). sumOf w (take n order)) before,
+      ap (λ (n : ℕ). sumOf w (take n order)) one,
+      sum-take w order (d + b + 2 * S + 1) 0 (omega arith),
     )
 
 -- a seat without hands has no cards
@@ -180,7 +204,7 @@ module _ (t : Table) (shaped : Shaped t) (ok : DealAccepted t) where
 
   all-places : t .shoe .drawn + (burnt t + 2 * stakedSeats (t .seats) + 1) ≤ 416
   unfolding dealTakes
-  all-places = omega (arith, ok .enough, decks-416 t (ok .sound))
+  all-places = omega (arith, ok .enough, decks-416 t (ok .sound), some-at-deal (t .options))
 
   first-given : (w : ℕ → ℕ) → sumOf (λ x. sumOf w (seatCards x)) once ≡ sumOf (λ x. sumOf w (seatCards x)) (t .seats) + sumOf w (take (stakedSeats (t .seats)) (drop (firstPlace t) (t .shoe .order)))
   first-given w =
@@ -249,15 +273,17 @@ module _ (t : Table) (shaped : Shaped t) (ok : DealAccepted t) where
   burns-next : tableDiscards (dealEffect t) ≡ take (t .shoe .discarded + length burntCards) (t .shoe .order)
   burns-next = discards-after ∙ ap₂ _++_ discards-first burnt-next ∙ sym (take-add (t .shoe .discarded) (length burntCards) (t .shoe .order))
 
-  -- what the deal takes of the shoe, in its order: the burnt cards, the first pass, the bank's card and the second pass
+  -- what the deal takes of the shoe: the burnt cards, the first pass, the second, and the bank's cards
   taken-parts : (w : ℕ → ℕ)
       → sumOf w (take (dealTakes t) (tableShoe t))
-      ≡ sumOf w burntCards + sumOf w (take (stakedSeats (t .seats)) (drop (firstPlace t) (t .shoe .order))) + w (upCard t) + sumOf w (take (stakedSeats (t .seats)) (drop (secondPlace t) (t .shoe .order)))
-  unfolding dealTakes upCard
-  taken-parts w = four-parts w (t .shoe .order) (t .shoe .drawn) (burnt t) (stakedSeats (t .seats)) (52 * t .options .decks) (ok .enough) (omega (arith, decks-416 t (ok .sound), order-length))
+      ≡ sumOf w burntCards + sumOf w (take (stakedSeats (t .seats)) (drop (firstPlace t) (t .shoe .order))) + sumOf w (take (stakedSeats (t .seats)) (drop (secondPlace t) (t .shoe .order))) + sumOf w (bankCards (dealEffect t))
+  unfolding dealEffect dealTakes bankAtDeal upCard hiddenCard
+  taken-parts w =
+      rw (bank-cards (t .options) (upCard t) (hiddenCard t))
+      (five-parts w (t .shoe .order) (t .shoe .drawn) (burnt t) (stakedSeats (t .seats)) (52 * t .options .decks) (isBox (t .options)) (ok .enough) (omega (arith, decks-416 t (ok .sound), order-length)))
 
   out-cards : (w : ℕ → ℕ) → sumOf w (outCards (dealEffect t)) ≡ sumOf w (outCards t) + sumOf w (take (dealTakes t) (tableShoe t))
-  unfolding dealEffect withCard sumOf
+  unfolding dealEffect
   out-cards w =
       omega (
         arith,
@@ -282,11 +308,11 @@ module _ (t : Table) (shaped : Shaped t) (ok : DealAccepted t) where
       (λ none. shaped .seats i h)
 
   pub deal-shaped : Shaped (dealEffect t)
-  unfolding dealEffect withCard
+  unfolding dealEffect
   deal-shaped = record {
     nine-seats = as-many ∙ shaped .nine-seats;
     seats = seat-shaped;
-    bank = refl;
+    bank = bank-length (t .options) (upCard t) (hiddenCard t);
     order = shaped .order;
     discards = length-sets (t .shoe .discards) (t .shoe .discarded) burntCards ∙ shaped .discards;
   }
@@ -314,10 +340,16 @@ module _ (t : Table) (shaped : Shaped t) (ok : DealAccepted t) where
       (rw (ok .between) at (ok .sound .seats i h)))
       (idle-sound i card h)
 
+  pub now-dealt : isDealt (dealEffect t) ≡ true
+  unfolding dealEffect
+  now-dealt = lt-ltb 0 (length (bankCards (dealEffect t))) (omega (arith, ap length (bank-cards (t .options) (upCard t) (hiddenCard t))))
+
   pub deal-sound : Sound (dealEffect t)
-  unfolding dealEffect withCard
+  unfolding dealEffect
   deal-sound = record {
     options = ok .sound .options;
+    begun = omega arith;
+    begun-drawn = λ some. refl;
     valid = ok .sound .valid;
     drawn = ok .enough;
     discarded = burnt-room;
@@ -325,8 +357,8 @@ module _ (t : Table) (shaped : Shaped t) (ok : DealAccepted t) where
     discards = same-taken (t .shoe .discarded + length burntCards) (dealEffect t .shoe .discards) (t .shoe .order) 0 burns-next;
     faces = λ b h. omega (arith, out-cards (isIt b), drawn-cards (isIt b), ok .sound .faces b h);
     number = omega (arith, out-cards (λ x. 1), shoe-takes (dealTakes t) (ok .enough), sum-ones (outCards (dealEffect t)), sum-ones (outCards t), sum-ones (take (dealTakes t) (tableShoe t)), ok .sound .number);
-    seats = λ i h. seat-sound i (upCard t) h;
-    bank = omega arith;
+    seats = λ i h. rw now-dealt (seat-sound i (up (dealEffect t)) h);
+    bank = λ some. bank-count (t .options) (upCard t) (hiddenCard t);
     round = λ dealt. some-staked ∙ ok .some;
     money = omega (arith, deal-money, ok .sound .money);
     cover = λ dealt. omega (arith, over-money (λ m. coverOf (m .stake) + sideCover (m .sides)), ok .covered);

@@ -1,10 +1,11 @@
--- Document 01, "House options": how many cards a deal burns. First burn if the shoe is fresh, else later burn (article 4).
+-- Document 01, "House options": how many cards a deal burns. First burn if the shoe is fresh, with the machine at its first deal since the opening (request 2.7),
+-- else later burn (article 4).
 use mathlib.Core.Bool.{cond}
 use Prim.Native.Nat.{ℕ}
 use lib.Dec.{eqb}
 use Rattle.options.specs.declared.Options.{Options}
 use Rattle.table.specs.declared.Shoe.{Shoe}
-use Rattle.table.specs.Shoe.{isFresh}
+use Rattle.table.specs.Shoe.{burnsFirst}
 
 -- First burn: 1 one card, 2 one per deck.
 abbrev pub firstBurn : Options → ℕ
@@ -16,4 +17,4 @@ laterBurn o = cond (eqb (o .later) 0) 0 1
 
 -- How many cards a deal burns.
 unfoldable pub burnAtDeal : Options → Shoe → ℕ
-burnAtDeal o sh = cond (isFresh sh) (firstBurn o) (laterBurn o)
+burnAtDeal o sh = cond (burnsFirst o sh) (firstBurn o) (laterBurn o)

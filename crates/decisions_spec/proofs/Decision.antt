@@ -7,8 +7,8 @@ use Prim.Native.Nat.{ℕ, _+_, _*_, _≤_, _<_}
 use native.Mathlib.Omega.{arith}
 use lib.Dec.{ltb, eqb}
 use lib.IntN.{pos}
-use lib.ListN.{length, getD, take, length-append}
-use borrow.Author.Tests.{ltb-true, eqb-true, eq-eqb, ne-eqb}
+use lib.ListN.{length, getD, take}
+use borrow.Author.Tests.{eqb-true, eq-eqb, ne-eqb}
 use Rattle.lists.specs.Sum.{sumOf}
 use Rattle.options.specs.declared.Options.{Options}
 use Rattle.options.specs.Permitted.{mostSide}
@@ -27,9 +27,10 @@ use Rattle.table.specs.declared.Shoe.{Shoe}
 use Rattle.table.specs.declared.Table.{Table}
 use Rattle.table.specs.Seat.{purse, stake, insurance, sides, hands, firstCards, laid, prizes, seatCards}
 use Rattle.table.specs.Shoe.{withDrawn}
-use Rattle.table.specs.Table.{seatAt, isDealt, up, bankCards, tableShoe, cardsLeft}
+use Rattle.table.specs.Table.{seatAt, isDealt, up, tableShoe, cardsLeft}
 use Rattle.table.specs.Shape.{Shaped, ShapedSeat}
 use Rattle.table.specs.Aids.Sound.{Sound, SoundSeat, Insured, Playing}
+use Rattle.table.proofs.Facts.{dealt-drawn}
 use Rattle.table.proofs.SeatChange.{changed, SeatChange, change-shaped, change-money, change-sound}
 use Rattle.agreement.specs.Aids.Agrees.{SeatAgrees, CardsAgree, Good}
 use Rattle.agreement.proofs.Groups.{InGroup, ofGuest, not-fill, not-credit, not-load, not-buy, not-cash, not-stake, not-side, not-deal, not-end}
@@ -137,13 +138,14 @@ pub record Draws (t : Table) (shoe : Shoe) (k : ℕ) : Type 0 where
   pub same-discards : shoe .discards ≡ t .shoe .discards
   pub same-discarded : shoe .discarded ≡ t .shoe .discarded
   pub more-drawn : shoe .drawn ≡ t .shoe .drawn + k
+  pub same-begun : shoe .begun ≡ t .shoe .begun
   pub enough : t .shoe .drawn + k ≤ 52 * t .options .decks
 
 pub draws-none : (t : Table) → Sound t → Draws t (t .shoe) 0
-draws-none t sound = record { same-order = refl; same-discards = refl; same-discarded = refl; more-drawn = omega arith; enough = omega (arith, sound .drawn) }
+draws-none t sound = record { same-order = refl; same-discards = refl; same-discarded = refl; more-drawn = omega arith; same-begun = refl; enough = omega (arith, sound .drawn) }
 
 pub draws-some : (t : Table) (k : ℕ) → k ≤ cardsLeft t → 0 < k → Draws t (withDrawn (t .shoe) k) k
-draws-some t k left some = record { same-order = refl; same-discards = refl; same-discarded = refl; more-drawn = refl; enough = omega arith }
+draws-some t k left some = record { same-order = refl; same-discards = refl; same-discarded = refl; more-drawn = refl; same-begun = refl; enough = omega arith }
 
 pub record Decided (t : Table) (e : Entry) (j tray : ℕ) (s : Seat) (shoe : Shoe) (k more won : ℕ) : Type 0 where
   pub guest : Guest e j
@@ -168,11 +170,6 @@ pub record Decided (t : Table) (e : Entry) (j tray : ℕ) (s : Seat) (shoe : Sho
   pub draws : Draws t shoe k
   pub takes : (staked : ℕ) (c : Cards) → callTakes (t .options) staked c e ≡ k
   pub cards-moved : (w : ℕ → ℕ) → sumOf w (seatCards s) ≡ sumOf w (seatCards (seatAt t j)) + sumOf w (take k (tableShoe t))
-
--- in a dealt round something is drawn: the bank's card
-some-drawn : (t : Table) → Sound t → isDealt t ≡ true → 0 < t .shoe .drawn
-some-drawn t sound dealt =
-    omega (arith, simp length-append at (sound .number), ltb-true 0 (length (bankCards t)) dealt)
 
 module _ (t : Table) (e : Entry) (j tray : ℕ) (s : Seat) (shoe : Shoe) (k more won : ℕ) (sound : Sound t) (d : Decided t e j tray s shoe k more won) where
   was : SoundSeat (t .options) (isDealt t) (up t) j (seatAt t j)
@@ -208,14 +205,13 @@ module _ (t : Table) (e : Entry) (j tray : ℕ) (s : Seat) (shoe : Shoe) (k more
         same-discards = d .draws .same-discards;
         same-discarded = d .draws .same-discarded;
         more-drawn = d .draws .more-drawn;
+        same-begun = d .draws .same-begun;
+        drawn-before = λ some. dealt-drawn t sound (d .acting .dealt);
         enough = d .draws .enough;
         cards-moved = d .cards-moved;
       }
 
 module _ (opening : List ℕ) (es : List Entry) (t : Table) (e : Entry) (j tray : ℕ) (s : Seat) (shoe : Shoe) (k more won : ℕ) (good : Good opening es t) (d : Decided t e j tray s shoe k more won) where
-  some-card : 0 < t .shoe .drawn
-  some-card = some-drawn t (good .sound) (d .acting .dealt)
-
   -- the history's seat, whose values the table's are
   history : SeatAgrees (t .options) opening es j (seatAt t j)
   history = good .agrees .seats j
@@ -280,7 +276,6 @@ module _ (opening : List ℕ) (es : List Entry) (t : Table) (e : Entry) (j tray 
         takes = d .takes (stakedBelow es (t .options .seats)) (cardsOfHistory (t .options) opening es);
         same-order = d .draws .same-order;
         more-drawn = d .draws .more-drawn;
-        same-fresh = ne-eqb (shoe .drawn) 0 (λ h. omega (arith, some-card)) ∙ sym (ne-eqb (t .shoe .drawn) 0 (λ h. omega (arith, some-card)));
         others = hands-others e j (d .guest) (t .options) opening es goes;
         first-others = first-others e j (d .guest) (t .options) opening es goes;
         events = d .events;

@@ -2,3 +2,5 @@
 pub mod Table
 pub mod Seat
 pub mod Hand
+-- The hidden card is not among it.
+pub mod InSight

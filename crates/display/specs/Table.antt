@@ -2,11 +2,11 @@
 use mathlib.Core.Bool.{Bool, true, false, cond, not, _||_}
 use Prim.Native.Nat.{ℕ}
 use Rattle.cards.specs.declared.hand.Hand.{Hand}
-use Rattle.cards.specs.Hand.{emptyHand}
+use Rattle.cards.specs.Hand.{emptyHand, withCard}
 use Rattle.options.specs.declared.Options.{Options}
 use Rattle.options.specs.Ranges.{noOptions}
 use Rattle.table.specs.declared.Table.{Table}
-use Rattle.table.specs.Table.{cardsLeft}
+use Rattle.table.specs.Table.{isDealt, up, cardsLeft}
 use Rattle.table.specs.Money.{layout, purses}
 use Rattle.table.specs.Broken.{broken}
 use Rattle.state.specs.Turn.{seatInTurn, anyWaits}
@@ -14,7 +14,7 @@ use Rattle.state.specs.Turn.{placeInTurn}
 use Rattle.display.specs.declared.TableShown.{TableShown}
 use Rattle.display.specs.declared.TurnShown.{TurnShown}
 
--- The options; the tray, all layout and all purses; the cards left, the number of discards and the bank's cards.
+-- The options; the tray, all layout and all purses; the cards left, the number of discards and what is shown of the bank.
 abbrev pub makeShown : Options → ℕ → ℕ → ℕ → ℕ → ℕ → Hand → TableShown
 makeShown options tray layout purses left discards bank =
     record { options = options; tray = tray; layout = layout; purses = purses; left = left; discards = discards; bank = bank }
@@ -23,10 +23,14 @@ makeShown options tray layout purses left discards bank =
 abbrev pub noTableShown : TableShown
 noTableShown = makeShown noOptions 0 0 0 0 0 emptyHand
 
+-- Of the bank only the up card: its second card, where it has one before close, lies face down (request 2.7).
+unfoldable pub bankShown : Table → Hand
+bankShown t = cond (isDealt t) (withCard emptyHand (up t)) emptyHand
+
 unfoldable pub tableShown : Table → TableShown
 tableShown t =
     cond (broken t) noTableShown
-    (makeShown (t .options) (t .tray) (layout t) (purses t) (cardsLeft t) (t .shoe .discarded) (t .bank))
+    (makeShown (t .options) (t .tray) (layout t) (purses t) (cardsLeft t) (t .shoe .discarded) (bankShown t))
 
 -- Whose turn it is, by seat and place, or that it is nobody's.
 abbrev pub makeTurn : Bool → ℕ → ℕ → TurnShown

@@ -3,19 +3,22 @@ pub mod hand;
 pub mod seat;
 
 ghost use mathlib.Core.Path.{_≡_};
-ghost use Rattle.display.specs.Table.{noTableShown, tableShown, nobodysTurn, turnShown};
+ghost use Rattle.display.specs.Table.{noTableShown, bankShown, tableShown, nobodysTurn, turnShown};
 use broken::broken;
 use cards::hand::Hand;
 use cards::hand::empty_hand;
+use cards::hand::with_card;
 use money::sums::table_sums;
 use options::Options;
 use state::empty::no_options;
 use state::round::cards_left;
+use state::round::is_dealt;
+use state::round::up;
 use state::turn::place_in_turn;
 use state::turn::seat_in_turn;
 use table::Table;
 
-// The options; the tray, all layout and all purses; how many cards are left, how many are discards, and the bank's cards.
+// The options; the tray, all layout and all purses; how many cards are left, how many are discards, and of the bank the up card.
 pub struct TableShown {
     pub options: Options,
     pub tray: u64,
@@ -47,6 +50,16 @@ fn no_table() -> TableShown
     }
 }
 
+// The up card, once a round is dealt: the bank's second card, where it has one before close, lies face down.
+fn shown_bank(t: Table) -> Hand
+    ensures { λ r. ⌜ r ≡ bankShown t ⌝ }
+{
+    if is_dealt(t) {
+        return with_card(empty_hand(), up(t));
+    }
+    empty_hand()
+}
+
 pub fn shown_table(t: Table) -> TableShown
     ensures { λ r. ⌜ r ≡ tableShown t ⌝ }
 {
@@ -56,7 +69,6 @@ pub fn shown_table(t: Table) -> TableShown
     let sums = table_sums(t);
     let options = t.options;
     let shoe = t.shoe;
-    let bank = t.bank;
     TableShown {
         options,
         tray: t.tray,
@@ -64,7 +76,7 @@ pub fn shown_table(t: Table) -> TableShown
         purses: sums.purses,
         left: cards_left(t),
         discards: shoe.discarded,
-        bank,
+        bank: shown_bank(t),
     }
 }
 

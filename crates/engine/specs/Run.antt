@@ -4,7 +4,8 @@ use mathlib.Core.List.{List, [], _∷_}
 use lib.Dec.{eqb}
 use Rattle.table.specs.declared.Table.{Table}
 use Rattle.history.specs.Entry.{Entry}
-use Rattle.engine.specs.Step.{number, next}
+use Rattle.call.specs.Answer.{Answer}
+use Rattle.engine.specs.Step.{step, number, next}
 
 -- The table after a list of calls, oldest first.
 unfoldable pub run : Table → List Entry → Table
@@ -16,3 +17,8 @@ unfoldable pub accepted : Table → List Entry → List Entry → List Entry
 accepted t [] known = known
 accepted t (e ∷ es) known =
     accepted (next t (e .call) (e .order)) es (cond (eqb (number t (e .call) (e .order)) 0) (e ∷ known) known)
+
+-- The answers to that list, accepted and refused, oldest first.
+unfoldable pub answers : Table → List Entry → List Answer
+answers t [] = []
+answers t (e ∷ es) = step t (e .call) (e .order) .answer ∷ answers (next t (e .call) (e .order)) es

@@ -16,10 +16,10 @@ use Rattle.table.specs.Money.{layout, purses}
 use Rattle.cashier_spec.specs.Opening.{openNumber, opened}
 use Rattle.engine.specs.Step.{number, next}
 
--- One deck, six seats, first burn 1, later 0, four hands, aces 0, double 1, limit 0, insurance 1, five 0, prize 1, cut 0, stakes 2–100.
+-- One deck, six seats, first burn 1, later 0, four hands, aces 0, double 1, limit 0, insurance 1, five 0, prize 1, shoe, cut 0, stakes 2–100.
 unfoldable pub house : Options
 house =
-    record { seats = 6; decks = 1; first = 1; later = 0; hands = 4; aces = 0; double = 1; limit = 0; insurance = 1; five = 0; prize = 1; cut = 0; smallest = 2; largest = 100 }
+    record { seats = 6; decks = 1; first = 1; later = 0; hands = 4; aces = 0; double = 1; limit = 0; insurance = 1; five = 0; prize = 1; device = 1; cut = 0; smallest = 2; largest = 100 }
 
 -- The faces from n on, k of them, that are not in the list.
 unfoldable pub others : List ℕ → ℕ → ℕ → List ℕ

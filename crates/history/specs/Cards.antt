@@ -1,5 +1,6 @@
 -- Document 01, "The history", cards: an accepted load sets the cards drawn to none. Deal, draw, double, split and close take the next ones of its order,
--- as many as their lines say; other calls take none. The shoe is fresh until the first accepted deal after its load.
+-- as many as their lines say; other calls take none. The shoe is fresh until the first accepted deal after its load, the machine until the first since the opening. The
+-- history draws as the device does (request 2.7).
 use mathlib.Core.Bool.{Bool, true, false, cond, _||_}
 use mathlib.Core.List.{List, [], _∷_, _++_}
 use Prim.Native.Nat.{ℕ, suc, _+_, _*_}
@@ -7,10 +8,11 @@ use lib.Dec.{leb, eqb}
 use lib.ListN.{getD, take, drop}
 use Rattle.cards.specs.Total.{total}
 use Rattle.options.specs.declared.Options.{Options}
+use Rattle.options.specs.Device.{isBox, isMachine}
 use Rattle.history.specs.Entry.{Entry, isDeal, isDraw, isDouble, isSplit, isClose, isEnd, isLoad}
 use Rattle.history.specs.Rounds.{stakedBelow}
 
--- The order of the last load, whether its shoe is fresh, how many of its cards are drawn, and the bank's cards.
+-- The order of the last load, whether the next deal is the first of a fresh shoe, how many of its cards are drawn, and the bank's cards.
 pub record Cards : Type 0 where
   pub order : List ℕ
   pub fresh : Bool
@@ -33,11 +35,11 @@ unfoldable pub bankMore : List ℕ → List ℕ → ℕ
 bankMore cards [] = 0
 bankMore cards (card ∷ rest) = cond (leb (total cards) 16) (suc (bankMore (cards ++ (card ∷ [])) rest)) 0
 
--- The cards that lie before the bank at close, behind its burn; its second card and those it takes then.
+-- The cards that lie before the bank at close, behind its burn; its second card, which the box's bank has, and those it takes then.
 unfoldable pub bankTaken : Options → Cards → ℕ
 bankTaken o c =
     let rest = drop (c .taken + closeBurns o) (c .order) in
-    suc (bankMore (c .bank ++ take 1 rest) (drop 1 rest))
+    cond (isBox o) (bankMore (c .bank) rest) (suc (bankMore (c .bank ++ take 1 rest) (drop 1 rest)))
 
 unfoldable pub bankFinal : Options → Cards → List ℕ
 bankFinal o c = c .bank ++ take (bankTaken o c) (drop (c .taken + closeBurns o) (c .order))
@@ -45,23 +47,24 @@ bankFinal o c = c .bank ++ take (bankTaken o c) (drop (c .taken + closeBurns o) 
 -- How many cards a call takes, in a round in which `staked` seats have staked.
 unfoldable pub callTakes : Options → ℕ → Cards → Entry → ℕ
 callTakes o staked c e =
-    cond (isDeal e) (dealBurns o c + 2 * staked + 1)
+    cond (isDeal e) (dealBurns o c + 2 * staked + cond (isBox o) 2 1)
     (cond (isDraw e || isDouble e) 1
     (cond (isSplit e) 2
     (cond (isClose e) (closeBurns o + bankTaken o c)
     0)))
 
--- The bank's cards after a call: deal gives it the one behind the burn and the first card of each staked seat.
+-- The bank's cards after a call: deal gives it the one behind the burn and the first card of each staked seat, with the box the one behind the second cards too.
 unfoldable pub bankAfter : Options → ℕ → Cards → Entry → List ℕ
 bankAfter o staked c e =
-    cond (isDeal e) (getD (c .order) (c .taken + dealBurns o c + staked) 0 ∷ [])
+    let behind = c .taken + dealBurns o c in
+    cond (isDeal e) (getD (c .order) (behind + staked) 0 ∷ cond (isBox o) (getD (c .order) (behind + 2 * staked + 1) 0 ∷ []) [])
     (cond (isEnd e) []
     (c .bank))
 
 -- What one call makes of the cards.
 unfoldable pub cardsAfter : Options → ℕ → Cards → Entry → Cards
 cardsAfter o staked c e =
-    cond (isLoad e) (makeCards (e .order) true 0 (c .bank))
+    cond (isLoad e) (makeCards (e .order) (cond (isMachine o) (c .fresh) true) 0 (c .bank))
     (makeCards (c .order) (cond (isDeal e) false (c .fresh)) (c .taken + callTakes o staked c e) (bankAfter o staked c e))
 
 -- The cards after a list of accepted calls; the opening's order counts as a load.

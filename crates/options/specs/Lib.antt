@@ -1,4 +1,5 @@
--- House options, given at opening: their ranges with the test that decides them, and the amounts that they permit a guest.
+-- House options, given at opening: the device, the ranges with the test that decides them, and the amounts that they permit a guest.
+pub mod Device
 pub mod Ranges
 pub mod Permitted
 -- What only proofs and the contracts of private functions cite: nothing here has to be believed.

@@ -1,9 +1,12 @@
 // House options, given at opening (document 01): the struct, its ranges and the test that decides them.
+pub mod device;
 pub mod permitted;
 
 ghost use mathlib.Core.Path.{_≡_};
 ghost use Rattle.lists.specs.Tests.{allOf};
-ghost use Rattle.options.specs.Ranges.{within as isWithin, range as rangeOf, leastCut, mostCut, ranges as rangesOf, inRange};
+ghost use Rattle.options.specs.Ranges.{within as isWithin, range as rangeOf, mostDecks, mostLater, hasCut, leastCut, mostCut, ranges as rangesOf, inRange};
+use crate::device::is_box;
+use crate::device::is_shoe;
 
 // The options in document 01's order. Every value is taken: `in_range` says whether a table may open with them.
 pub struct Options {
@@ -29,7 +32,9 @@ pub struct Options {
     pub five: u8,
     // Special prize: 0 or 1.
     pub prize: u8,
-    // Cards behind the cut: 0 with one deck, else 30 to 26 for each deck.
+    // Device: 1 shoe, 2 box (one deck, no later burn), 3 machine.
+    pub device: u8,
+    // Cards behind the cut: 0 with one deck, a box or a machine, else 30 to 26 for each deck.
     pub cut: u16,
     // Smallest stake, even, at least 2.
     pub smallest: u32,
@@ -50,16 +55,36 @@ fn within(r: Bounds) -> bool
     r.least <= r.value && r.value <= r.most
 }
 
-fn least_cut(decks: u8) -> u32
-    ensures { λ r. ⌜ r ≡ leastCut decks ⌝ }
+// The box has one deck and no later burn.
+fn most_decks(o: Options) -> u32
+    ensures { λ r. ⌜ r ≡ mostDecks o ⌝ }
 {
-    if decks == 1 { 0 } else { 30 }
+    if is_box(o) { 1 } else { 8 }
 }
 
-fn most_cut(decks: u8) -> u32
-    ensures { λ r. ⌜ r ≡ mostCut decks ⌝ }
+fn most_later(o: Options) -> u32
+    ensures { λ r. ⌜ r ≡ mostLater o ⌝ }
 {
-    if decks == 1 { 0 } else { 26 * (decks as u32) }
+    if is_box(o) { 0 } else { 2 }
+}
+
+// A shoe of several decks has a cut.
+fn has_cut(o: Options) -> bool
+    ensures { λ r. ⌜ r ≡ hasCut o ⌝ }
+{
+    is_shoe(o) && o.decks != 1
+}
+
+fn least_cut(o: Options) -> u32
+    ensures { λ r. ⌜ r ≡ leastCut o ⌝ }
+{
+    if has_cut(o) { 30 } else { 0 }
+}
+
+fn most_cut(o: Options) -> u32
+    ensures { λ r. ⌜ r ≡ mostCut o ⌝ }
+{
+    if has_cut(o) { 26 * (o.decks as u32) } else { 0 }
 }
 
 fn range(value: u32, least: u32, most: u32) -> Bounds
@@ -76,14 +101,14 @@ fn small(value: u8, least: u32, most: u32) -> Bounds
 }
 
 // The options with their ranges, in document 01's order.
-fn ranges(o: Options) -> [Bounds; 14]
+fn ranges(o: Options) -> [Bounds; 15]
     ensures { λ r. ⌜ r ≡ rangesOf o ⌝ }
 {
     [
         small(o.seats, 6, 9),
-        small(o.decks, 1, 8),
+        small(o.decks, 1, most_decks(o)),
         small(o.first, 1, 2),
-        small(o.later, 0, 2),
+        small(o.later, 0, most_later(o)),
         small(o.hands, 2, 4),
         small(o.aces, 0, 1),
         small(o.double, 1, 2),
@@ -91,16 +116,17 @@ fn ranges(o: Options) -> [Bounds; 14]
         small(o.insurance, 1, 2),
         small(o.five, 0, 1),
         small(o.prize, 0, 1),
-        range(o.cut as u32, least_cut(o.decks), most_cut(o.decks)),
+        small(o.device, 1, 3),
+        range(o.cut as u32, least_cut(o), most_cut(o)),
         range(o.smallest, 2, o.largest),
         range(o.largest, o.smallest, 1_000_000),
     ]
 }
 
-fn all_within(rs: [Bounds; 14]) -> bool
+fn all_within(rs: [Bounds; 15]) -> bool
     ensures { λ r. ⌜ r ≡ allOf isWithin rs ⌝ }
 {
-    for i in 0usize..14 {
+    for i in 0usize..15 {
         let r = rs[i];
         if !within(r) {
             return false;

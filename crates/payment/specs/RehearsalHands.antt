@@ -57,6 +57,7 @@ house limit =
       insurance = 1;
       five = 0;
       prize = 1;
+      device = 1;
       cut = 0;
       smallest = 2;
       largest = 100;

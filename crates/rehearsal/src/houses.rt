@@ -85,9 +85,9 @@ pub(crate) fn ordered(s: Stage, row: &[u8]) -> Stage
     next
 }
 
-// Eleven options of a digit each, at 2; the cut at 14, the smallest stake at 18, the largest at 26.
+// Twelve options of a digit each, at 2; the cut at 15, the smallest stake at 19, the largest at 27.
 fn house(row: &[u8]) -> Options
-    requires { do ⌜ 34 ≤ (← ⟦row.len()⟧) ⌝ }
+    requires { do ⌜ 35 ≤ (← ⟦row.len()⟧) ⌝ }
 {
     Options {
         seats: digit(row[2]),
@@ -101,9 +101,10 @@ fn house(row: &[u8]) -> Options
         insurance: digit(row[10]),
         five: digit(row[11]),
         prize: digit(row[12]),
-        cut: (number(&row[14..17]) % 1000) as u16,
-        smallest: (number(&row[18..25]) % 10000000) as u32,
-        largest: (number(&row[26..33]) % 10000000) as u32,
+        device: digit(row[13]),
+        cut: (number(&row[15..18]) % 1000) as u16,
+        smallest: (number(&row[19..26]) % 10000000) as u32,
+        largest: (number(&row[27..34]) % 10000000) as u32,
     }
 }
 
@@ -114,14 +115,14 @@ fn opened_by(cards: [u8; 416], count: usize, o: Options) -> Outcome {
 
 // An opening with the order that was lent last.
 pub(crate) fn opened(s: Stage, row: &[u8]) -> Stage {
-    if row.len() < 34 {
+    if row.len() < 35 {
         return s;
     }
     let order = s.order;
     let cards = order.cards;
     let o = opened_by(cards, order.count, house(row));
     let table = o.table;
-    lines::opened(o.number, table, &row[34..]);
+    lines::opened(o.number, table, &row[35..]);
     let mut next = s;
     next.table = table;
     next

@@ -153,6 +153,14 @@ fn settlement(answer: Answer, names: &[u32; LINES], nets: &[i64; LINES]) {
     pay_lines(names, nets, answer.lines);
 }
 
+// What a display shows of the bank before close.
+pub(crate) fn bank(t: Table) {
+    let shown = shown_table(t);
+    words(b"  bank shows");
+    cards(shown.bank);
+    words(b"\n");
+}
+
 // The place of a letter among letters, or their number where it is none of them.
 fn place(letters: &[u8], letter: u8) -> usize
     ensures { λ r. do ⌜ r ≤ (← ⟦letters.len()⟧ .entry) ⌝ }

@@ -20,6 +20,7 @@ fn row_shown(s: Stage, row: &[u8])
         b'=' => lines::heading(&row[21..]),
         b'h' => lines::hands(t, digit(row[2])),
         b'a' => lines::aloud(s.aloud),
+        b'k' => lines::bank(t),
         _ => lines::turn(t),
     }
 }
@@ -33,7 +34,7 @@ fn row_played(s: Stage, row: &[u8], names: &mut [u32; LINES], nets: &mut [i64; L
         b'#' => s,
         b'o' => ordered(s, row),
         b'O' => opened(s, row),
-        b'=' | b'h' | b'a' | b't' => {
+        b'=' | b'h' | b'a' | b'k' | b't' => {
             row_shown(s, row);
             s
         }

@@ -9,7 +9,7 @@ use libc::STDOUT_FILENO;
 use options::Options;
 use table::Table;
 
-// One deck, six seats, first burn 1, later 0, four hands, aces 0, double 1, limit 0, insurance 1, five 0, prize 1, cut 0, stakes 2 to 100.
+// One deck, six seats, first burn 1, later 0, four hands, aces 0, double 1, limit 0, insurance 1, five 0, prize 1, shoe, cut 0, stakes 2 to 100.
 fn house() -> Options {
     Options {
         seats: 6,
@@ -23,6 +23,7 @@ fn house() -> Options {
         insurance: 1,
         five: 0,
         prize: 1,
+        device: 1,
         cut: 0,
         smallest: 2,
         largest: 100,

@@ -21,5 +21,5 @@ card-next l at cards i so-far card h stored it =
 
 -- all of them are, and their number counts
 pub discard-stored : (sh : Shoe) (l cards : List ℕ) (n : ℕ) → l ≡ sets (sh .discards) (sh .discarded) cards → n ≡ length cards
-    → makeShoe (sh .order) (sh .drawn) l (sh .discarded + n) ≡ discard sh cards
+    → makeShoe (sh .order) (sh .drawn) l (sh .discarded + n) (sh .begun) ≡ discard sh cards
 discard-stored sh l cards n stored counted = rw (stored, counted)

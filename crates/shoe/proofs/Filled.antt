@@ -13,11 +13,12 @@ unfolding noCards
 no-cards-length empty e = ap length e ∙ length-replicate {A = ℕ} 416 0
 
 -- once every card is copied, zeros stand behind them
-pub filled : (order cards empty : List ℕ) (i : ℕ) → i ≡ length order → empty ≡ noCards → cards ≡ take i order ++ drop i empty → makeShoe cards 0 empty 0 ≡ newShoe order
+pub filled : (order cards empty : List ℕ) (i begun : ℕ) → i ≡ length order → empty ≡ noCards → cards ≡ take i order ++ drop i empty
+    → makeShoe cards 0 empty 0 begun ≡ newShoe begun order
 unfolding noCards
-filled order cards empty i all e copied =
+filled order cards empty i begun all e copied =
     let whole : cards ≡ order ++ replicate (416 - length order) 0 =
     copied
     ∙ ap (λ (k : ℕ). take k order ++ drop k empty) all
     ∙ ap₂ _++_ (take-length order) (ap (drop (length order)) e ∙ drop-replicate (length order) 416 0) in
-    ap₂ (λ (o d : List ℕ). makeShoe o 0 d 0) whole e
+    ap₂ (λ (o d : List ℕ). makeShoe o 0 d 0 begun) whole e

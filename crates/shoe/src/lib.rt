@@ -57,9 +57,9 @@ fn no_cards() -> [u8; 416]
 }
 
 // The shoe that a load makes. Public for the load alone, which tests the length of its order first: so it asks that the array has room for it.
-pub fn new_shoe(order: &[u8]) -> Shoe
+pub fn new_shoe(order: &[u8], begun: u8) -> Shoe
     requires { ⌜ length (now order) ≤ 416 ⌝ }
-    ensures { λ r. ⌜ r ≡ newShoe (now (order .entry)) ⌝ }
+    ensures { λ r. ⌜ r ≡ newShoe begun (now (order .entry)) ⌝ }
 {
     let n = order.len();
     let empty = no_cards();
@@ -72,5 +72,6 @@ pub fn new_shoe(order: &[u8]) -> Shoe
         drawn: 0,
         discards: empty,
         discarded: 0,
+        begun,
     }
 }

@@ -26,6 +26,7 @@ pub fn no_options() -> Options
         insurance: 0,
         five: 0,
         prize: 0,
+        device: 0,
         cut: 0,
         smallest: 0,
         largest: 0,

@@ -18,6 +18,7 @@ use Rattle.cards.specs.Card.{isAce}
 use Rattle.cards.specs.Hand.{cardsOf}
 use Rattle.cards.specs.Length.{couldBePlayed}
 use Rattle.options.specs.declared.Options.{Options}
+use Rattle.options.specs.Device.{bankAtDeal}
 use Rattle.options.specs.Ranges.{inRange}
 use Rattle.options.specs.Aids.Facts.{InRange}
 use Rattle.options.proofs.Facts.{in-range-facts}
@@ -26,6 +27,7 @@ use Rattle.rules.specs.SeatHand.{playedOf}
 use Rattle.rules.proofs.seat_hand.Places.{many-hands}
 use Rattle.payment.specs.Bets.{allSides}
 use Rattle.table.specs.declared.Seat.{Seat}
+use Rattle.table.specs.declared.Shoe.{Shoe}
 use Rattle.table.specs.declared.Table.{Table}
 use Rattle.table.specs.Seat.{missingPlace, purse, stake, insurance, sides, isStaked, hands, laid, prizes}
 use Rattle.table.specs.Shoe.{validOrder}
@@ -33,7 +35,7 @@ use Rattle.table.specs.Table.{seatAt, isDealt, up, someStaked, tableOrde
 use Rattle.table.specs.Money.{mostMoney, allMoney, allPrizes, allCover}
 use Rattle.table.specs.Faces.{outCards}
 use Rattle.options.specs.Permitted.{insurancePermitted, mostSide}
-use Rattle.table.specs.Broken.{broken, sound, soundShoe, soundDiscards, soundFaces, soundBank, soundMoney, seatSound, soundSeat, soundNumber, soundStake, soundInsurance, soundSides, soundHands, soundPrizes, soundHand, soundOrigin, soundEnding}
+use Rattle.table.specs.Broken.{broken, sound, soundShoe, soundDiscards, soundFaces, soundBegun, soundBank, soundMoney, seatSound, soundSeat, soundNumber, soundStake, soundInsurance, soundSides, soundHands, soundPrizes, soundHand, soundOrigin, soundEnding}
 use Rattle.table.specs.Aids.Sound.{Sound, SoundSeat, SoundHand, Insured, Playing, HoldsNothing}
 
 -- A hand.
@@ -178,34 +180,47 @@ facts-seat o inRound up i s f =
     )
 
 -- The bank.
-bank-facts : (t : Table) → soundBank t ≡ true → (t .bank .count ≤ 1) × (isDealt t ≡ true → someStaked t ≡ true)
+bank-facts : (t : Table) → soundBank t ≡ true → (0 < t .bank .count → t .bank .count ≡ bankAtDeal (t .options)) × (isDealt t ≡ true → someStaked t ≡ true)
 unfolding soundBank
 bank-facts t e = go (decLe (t .bank .count) 0)
   where
-    go : Dec (t .bank .count ≤ 0) → (t .bank .count ≤ 1) × (isDealt t ≡ true → someStaked t ≡ true)
-    go (yes h) = (omega arith, λ round. absurd (omega (arith, ltb-true 0 (length (bankCards t)) round, length-take (t .bank .count) (t .bank .cards))))
+    go : Dec (t .bank .count ≤ 0) → (0 < t .bank .count → t .bank .count ≡ bankAtDeal (t .options)) × (isDealt t ≡ true → someStaked t ≡ true)
+    go (yes h) = (λ some. absurd (omega arith), λ round. absurd (omega (arith, ltb-true 0 (length (bankCards t)) round, length-take (t .bank .count) (t .bank .cards))))
     go (no h) =
-        let test = and-at (eqb (t .bank .count) 1 ∷ someStaked t ∷ []) (test-some (t .bank .count) _ e (omega arith)) in
-        (omega (arith, eqb-true (t .bank .count) 1 (test 0)), λ round. test 1)
+        let test = and-at (eqb (t .bank .count) (bankAtDeal (t .options)) ∷ someStaked t ∷ []) (test-some (t .bank .count) _ e (omega arith)) in
+        (λ some. eqb-true (t .bank .count) (bankAtDeal (t .options)) (test 0), λ round. test 1)
 
-facts-bank : (t : Table) → length (t .bank .cards) ≡ 20 → t .bank .count ≤ 1 → (isDealt t ≡ true → someStaked t ≡ true) → soundBank t ≡ true
+facts-bank : (t : Table) → length (t .bank .cards) ≡ 20 → (0 < t .bank .count → t .bank .count ≡ bankAtDeal (t .options)) → (isDealt t ≡ true → someStaked t ≡ true) → soundBank t ≡ true
 unfolding soundBank
-facts-bank t twenty one f =
+facts-bank t twenty many f =
     some-test (t .bank .count) _ (λ some.
     let round : isDealt t ≡ true = lt-ltb 0 (length (bankCards t)) (omega (arith, length-take (t .bank .count) (t .bank .cards))) in
-    simp (eq-eqb (t .bank .count) 1 (omega arith), f round))
+    simp (eq-eqb (t .bank .count) (bankAtDeal (t .options)) (many some), f round))
+
+-- Whether play has begun.
+begun-facts : (sh : Shoe) → soundBegun sh ≡ true → (sh .begun ≤ 1) × (0 < sh .drawn → sh .begun ≡ 1)
+unfolding soundBegun
+begun-facts sh e =
+    let test = and-at (leb (sh .begun) 1 ∷ (eqb (sh .drawn) 0 || eqb (sh .begun) 1) ∷ []) e in
+    (leb-true _ _ (test 0), λ some. eqb-true _ _ (test-some (sh .drawn) _ (test 1) some))
+
+facts-begun : (sh : Shoe) → sh .begun ≤ 1 → (0 < sh .drawn → sh .begun ≡ 1) → soundBegun sh ≡ true
+unfolding soundBegun
+facts-begun sh one drawn = simp (le-leb _ _ one, some-test (sh .drawn) _ (λ some. eq-eqb _ _ (drawn some)))
 
 pub sound-facts : (t : Table) → sound t ≡ true → Sound t
 unfolding sound soundShoe soundDiscards soundFaces soundMoney
 sound-facts t e =
-    let tests = inRange (t .options) ∷ soundShoe t ∷ soundDiscards t ∷ soundFaces t ∷ allBelow (seatSound t) 9 ∷ soundBank t ∷ soundMoney t ∷ [] in
+    let tests = inRange (t .options) ∷ soundBegun (t .shoe) ∷ soundShoe t ∷ soundDiscards t ∷ soundFaces t ∷ allBelow (seatSound t) 9 ∷ soundBank t ∷ soundMoney t ∷ [] in
     let test = and-at tests e in
-    let shoe = and-at (validOrder (t .options .decks) (tableOrder t) ∷ leb (t .shoe .drawn) (52 * t .options .decks) ∷ leb (t .shoe .discarded) 416 ∷ []) (test 1) in
-    let discards = and-at (leb (t .shoe .discarded) (t .shoe .drawn) ∷ allBelow (λ k. eqb (getD (t .shoe .discards) k 0) (getD (t .shoe .order) k 0)) (t .shoe .discarded) ∷ []) (test 2) in
-    let faces = and-at (allBelow (λ b. eqb (countOf b (outCards t)) (countOf b (tableDrawn t))) 256 ∷ eqb (length (outCards t)) (t .shoe .drawn) ∷ []) (test 3) in
-    let money = and-at (leb (allMoney t) mostMoney ∷ (not (isDealt t) || leb (allCover t) (t .tray + allPrizes t)) ∷ []) (test 6) in
+    let shoe = and-at (validOrder (t .options .decks) (tableOrder t) ∷ leb (t .shoe .drawn) (52 * t .options .decks) ∷ leb (t .shoe .discarded) 416 ∷ []) (test 2) in
+    let discards = and-at (leb (t .shoe .discarded) (t .shoe .drawn) ∷ allBelow (λ k. eqb (getD (t .shoe .discards) k 0) (getD (t .shoe .order) k 0)) (t .shoe .discarded) ∷ []) (test 3) in
+    let faces = and-at (allBelow (λ b. eqb (countOf b (outCards t)) (countOf b (tableDrawn t))) 256 ∷ eqb (length (outCards t)) (t .shoe .drawn) ∷ []) (test 4) in
+    let money = and-at (leb (allMoney t) mostMoney ∷ (not (isDealt t) || leb (allCover t) (t .tray + allPrizes t)) ∷ []) (test 7) in
     record {
       options = test 0;
+      begun = begun-facts (t .shoe) (test 1) .0;
+      begun-drawn = begun-facts (t .shoe) (test 1) .1;
       valid = shoe 0;
       drawn = leb-true _ _ (shoe 1);
       discarded = leb-true _ _ (shoe 2);
@@ -213,9 +228,9 @@ sound-facts t e =
       discards = λ k h. eqb-true _ _ (all-below _ (t .shoe .discarded) k (discards 1) h);
       faces = λ b h. eqb-true _ _ (all-below _ 256 b (faces 0) h);
       number = eqb-true _ _ (faces 1);
-      seats = λ i h. seat-facts (t .options) (isDealt t) (up t) i (seatAt t i) (all-below (seatSound t) 9 i (test 4) h);
-      bank = bank-facts t (test 5) .0;
-      round = bank-facts t (test 5) .1;
+      seats = λ i h. seat-facts (t .options) (isDealt t) (up t) i (seatAt t i) (all-below (seatSound t) 9 i (test 5) h);
+      bank = bank-facts t (test 6) .0;
+      round = bank-facts t (test 6) .1;
       money = leb-true _ _ (money 0);
       cover = λ round. leb-true _ _ (test-where (isDealt t) _ (money 1) round);
     }
@@ -225,6 +240,7 @@ unfolding sound soundShoe soundDiscards soundFaces soundMoney
 facts-sound t twenty f =
     simp (
       f .options,
+      facts-begun (t .shoe) (f .begun) (f .begun-drawn),
       f .valid,
       le-leb _ _ (f .drawn),
       le-leb _ _ (f .discarded),
@@ -270,6 +286,15 @@ room-discards t full f =
 pub dealt-drawn : (t : Table) → Sound t → isDealt t ≡ true → 0 < t .shoe .drawn
 dealt-drawn t f round =
     omega (arith, length-append (handCards t ++ bankCards t) (tableDiscards t), length-append (handCards t) (bankCards t), ltb-true 0 (length (bankCards t)) round)
+
+-- a shoe of which k cards more are drawn: play had begun where that is any
+pub still-begun : (t : Table) (sh : Shoe) (k : ℕ) → Sound t → sh .begun ≡ t .shoe .begun → sh .drawn ≡ t .shoe .drawn + k → (0 < k → 0 < t .shoe .drawn)
+    → (sh .begun ≤ 1) × (0 < sh .drawn → sh .begun ≡ 1)
+still-begun t sh k f same more before = (omega (arith, f .begun), λ some. same ∙ f .begun-drawn (go (decLe k 0) some))
+  where
+    go : Dec (k ≤ 0) → 0 < sh .drawn → 0 < t .shoe .drawn
+    go (yes none) some = omega arith
+    go (no h) some = before (omega arith)
 
 -- a seat has as many hands as its number of hands says: that is 0, or at most the option's
 pub hands-many : (s : Seat) → length (s .hands .places) ≡ 4 → s .hands .many ≤ 4 → length (hands s) ≡ s .hands .many

@@ -25,7 +25,7 @@ use Rattle.table.specs.Money.{allMoney}
 use Rattle.table.specs.Faces.{outCards}
 use Rattle.table.specs.Shape.{Shaped, ShapedSeat}
 use Rattle.table.specs.Aids.Sound.{Sound, SoundSeat, HoldsNothing}
-use Rattle.table.proofs.Facts.{decks-416}
+use Rattle.table.proofs.Facts.{decks-416, still-begun}
 use Rattle.table.proofs.SeatChange.{sum-out}
 
 -- a seat at the end of the round, with its new purse
@@ -42,6 +42,8 @@ pub record RoundEnd (t : Table) (tray : ℕ) (purse-of : Seat → ℕ) (shoe : S
   pub nothing-stays : (s : Seat) → HoldsNothing s → purse-of s ≡ 0
   pub same-order : shoe .order ≡ t .shoe .order
   pub more-drawn : shoe .drawn ≡ t .shoe .drawn + k
+  pub same-begun : shoe .begun ≡ t .shoe .begun
+  pub drawn-before : 0 < k → 0 < t .shoe .drawn
   pub enough : t .shoe .drawn + k ≤ 52 * t .options .decks
   pub all-discards : shoe .discards ≡ sets (t .shoe .discards) 0 (take (shoe .drawn) (shoe .order))
   pub all-discarded : shoe .discarded ≡ shoe .drawn
@@ -127,6 +129,8 @@ module _ (t : Table) (tray : ℕ) (purse-of : Seat → ℕ) (shoe : Shoe) (k : �
   pub end-sound : Sound after
   end-sound = record {
     options = sound .options;
+    begun = still-begun t shoe k sound (end .same-begun) (end .more-drawn) (end .drawn-before) .0;
+    begun-drawn = still-begun t shoe k sound (end .same-begun) (end .more-drawn) (end .drawn-before) .1;
     valid = rw (end .same-order) (sound .valid);
     drawn = all-drawn;
     discarded = omega (arith, end .all-discarded, all-drawn, decks-416 t sound);
@@ -143,7 +147,7 @@ module _ (t : Table) (tray : ℕ) (purse-of : Seat → ℕ) (shoe : Shoe) (k : �
           drawn-length,
         );
     seats = λ i h. rw (cleared-at purse-of (t .seats) i (omega arith)) (end-seat i (sound .seats i h));
-    bank = omega arith;
+    bank = λ some. absurd (omega arith);
     round = λ dealt. absurd (true≢false (sym dealt));
     money = omega (arith, end-money, sound .money);
     cover = λ dealt. absurd (true≢false (sym dealt));

@@ -20,6 +20,7 @@ use Rattle.table.specs.Money.{mostMoney, allMoney}
 use Rattle.table.specs.Faces.{outCards}
 use Rattle.table.specs.Shape.{Shaped, ShapedSeat}
 use Rattle.table.specs.Aids.Sound.{Sound, SoundSeat}
+use Rattle.table.proofs.Facts.{still-begun}
 
 -- whatever is summed over the cards that are out: the seats' parts, the bank's and the discards'
 pub sum-out : (t : Table) (w : ℕ → ℕ) → sumOf w (outCards t) ≡ sumOf (λ x. sumOf w (seatCards x)) (t .seats) + sumOf w (bankCards t) + sumOf w (tableDiscards t)
@@ -43,6 +44,8 @@ pub record SeatChange (t : Table) (j tray : ℕ) (s : Seat) (shoe : Shoe) (k cam
   pub same-discards : shoe .discards ≡ t .shoe .discards
   pub same-discarded : shoe .discarded ≡ t .shoe .discarded
   pub more-drawn : shoe .drawn ≡ t .shoe .drawn + k
+  pub same-begun : shoe .begun ≡ t .shoe .begun
+  pub drawn-before : 0 < k → 0 < t .shoe .drawn
   pub enough : t .shoe .drawn + k ≤ 52 * t .options .decks
   pub cards-moved : (w : ℕ → ℕ) → sumOf w (seatCards s) ≡ sumOf w (seatCards (seatAt t j)) + sumOf w (take k (tableShoe t))
 
@@ -83,6 +86,8 @@ module _ (t : Table) (j tray : ℕ) (s : Seat) (shoe : Shoe) (k came went : ℕ)
   pub change-sound : Sound (changed t j tray s shoe)
   change-sound = record {
     options = sound .options;
+    begun = still-begun t shoe k sound (ch .same-begun) (ch .more-drawn) (ch .drawn-before) .0;
+    begun-drawn = still-begun t shoe k sound (ch .same-begun) (ch .more-drawn) (ch .drawn-before) .1;
     valid = rw (ch .same-order) (sound .valid);
     drawn = omega arith;
     discarded = omega arith;

@@ -12,15 +12,17 @@ use Rattle.cards.specs.Hand.{cardsOf}
 use Rattle.cards.specs.Length.{couldBePlayed}
 use Rattle.cards.specs.Total.{total}
 use Rattle.options.specs.declared.Options.{Options}
+use Rattle.options.specs.Device.{bankAtDeal}
 use Rattle.options.specs.Ranges.{inRange}
 use Rattle.options.specs.Permitted.{stakePermitted, insurancePermitted, mostSide}
 use Rattle.rules.specs.declared.seat_hand.SeatHand.{SeatHand}
 use Rattle.rules.specs.SeatHand.{Played, playedOf, dealt, split, splitAces, byStand, byDouble, bySurrender, byEven, byFive, hasTwoCards}
 use Rattle.rules.specs.OpenCalls.{evenOpen, fiveOpen}
 use Rattle.table.specs.declared.Seat.{Seat}
+use Rattle.table.specs.declared.Shoe.{Shoe}
 use Rattle.table.specs.declared.Table.{Table}
 use Rattle.table.specs.Seat.{purse, stake, insurance, sides, isStaked, laid, prizes}
-use Rattle.table.specs.Shoe.{validOrder}
+use Rattle.table.specs.Shoe.{validOrder, isFresh}
 use Rattle.table.specs.Table.{seatAt, isDealt, up, someStaked, tableOrder, tableDrawn}
 use Rattle.table.specs.Money.{mostMoney, allMoney, allPrizes, allCover}
 use Rattle.table.specs.Faces.{outCards}
@@ -90,6 +92,10 @@ seatSound t i = soundSeat (t .options) (isDealt t) (up t) i (seatAt t i)
 unfoldable pub soundShoe : Table → Bool
 soundShoe t = validOrder (t .options .decks) (tableOrder t) && leb (t .shoe .drawn) (52 * t .options .decks) && leb (t .shoe .discarded) 416
 
+-- Play has begun or not, and it has where a card is drawn (request 2.7).
+unfoldable pub soundBegun : Shoe → Bool
+soundBegun sh = leb (sh .begun) 1 && (isFresh sh || eqb (sh .begun) 1)
+
 -- The discards are the first drawn cards, in the order in which they were drawn.
 unfoldable pub soundDiscards : Table → Bool
 soundDiscards t = leb (t .shoe .discarded) (t .shoe .drawn) && allBelow (λ k. eqb (getD (t .shoe .discards) k 0) (getD (t .shoe .order) k 0)) (t .shoe .discarded)
@@ -98,9 +104,9 @@ soundDiscards t = leb (t .shoe .discarded) (t .shoe .drawn) && allBelow (λ k. e
 unfoldable pub soundFaces : Table → Bool
 soundFaces t = allBelow (λ b. eqb (countOf b (outCards t)) (countOf b (tableDrawn t))) 256 && eqb (length (outCards t)) (t .shoe .drawn)
 
--- The bank has at most one card; in a dealt round some seat has a stake.
+-- The bank has no card, or as many as a deal of the device gives it (request 2.7); in a dealt round some seat has a stake.
 unfoldable pub soundBank : Table → Bool
-soundBank t = eqb (t .bank .count) 0 || (eqb (t .bank .count) 1 && someStaked t)
+soundBank t = eqb (t .bank .count) 0 || (eqb (t .bank .count) (bankAtDeal (t .options)) && someStaked t)
 
 -- All money is within 10^15; in a dealt round the tray with the prizes paid covers every stake and side stake.
 unfoldable pub soundMoney : Table → Bool
@@ -108,7 +114,7 @@ soundMoney t = leb (allMoney t) mostMoney && (not (isDealt t) || leb (allCover t
 
 unfoldable pub sound : Table → Bool
 sound t =
-    inRange (t .options) && soundShoe t && soundDiscards t && soundFaces t && allBelow (seatSound t) 9 && soundBank t && soundMoney t
+    inRange (t .options) && soundBegun (t .shoe) && soundShoe t && soundDiscards t && soundFaces t && allBelow (seatSound t) 9 && soundBank t && soundMoney t
 
 abbrev pub broken : Table → Bool
 broken t = not (sound t)

@@ -7,6 +7,7 @@ pub mod Progress
 pub mod Money
 pub mod Faces
 pub mod Broken
+pub mod InSight
 pub mod Shape
 -- What only proofs and the contracts of private functions cite: nothing here has to be believed.
 pub mod Aids

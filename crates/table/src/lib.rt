@@ -18,12 +18,14 @@ pub struct Seat {
     pub first: [u8; 3],
 }
 
-// The shoe: the loaded order and how much of it is drawn; the discards and how many there are.
+// The shoe: the loaded order and how much of it is drawn; the discards and how many there are; 1 once a deal was accepted since the opening, else 0, which the
+// machine's burn asks.
 pub struct Shoe {
     pub order: [u8; 416],
     pub drawn: usize,
     pub discards: [u8; 416],
     pub discarded: usize,
+    pub begun: u8,
 }
 
 pub struct Table {

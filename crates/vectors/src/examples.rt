@@ -49,6 +49,7 @@ pub(crate) fn house(letter: u8) -> Options {
         insurance: 1,
         five: on(letter, b'f'),
         prize: on(letter, b'p'),
+        device: 1,
         cut: 0,
         smallest: 2,
         largest: 100,

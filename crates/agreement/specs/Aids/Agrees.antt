@@ -9,7 +9,7 @@ use Rattle.options.specs.declared.Options.{Options}
 use Rattle.table.specs.declared.Seat.{Seat}
 use Rattle.table.specs.declared.Table.{Table}
 use Rattle.table.specs.Seat.{purse, stake, insurance, sides, hands, firstCards, laid, prizes}
-use Rattle.table.specs.Shoe.{isFresh}
+use Rattle.table.specs.Shoe.{burnsFirst}
 use Rattle.table.specs.Table.{seatAt, bankCards, isDealt, tableOrder}
 use Rattle.table.specs.Progress.{anyDrew, anyDecided}
 use Rattle.table.specs.Money.{allMoney}
@@ -36,7 +36,7 @@ pub record SeatAgrees (o : Options) (opening : List ℕ) (es : List Entry) (i : 
 pub record CardsAgree (c : Cards) (t : Table) : Type 0 where
   pub order : tableOrder t ≡ c .order
   pub taken : t .shoe .drawn ≡ c .taken
-  pub fresh : isFresh (t .shoe) ≡ c .fresh
+  pub fresh : burnsFirst (t .options) (t .shoe) ≡ c .fresh
   pub bank : bankCards t ≡ c .bank
 
 pub record Agrees (opening : List ℕ) (es : List Entry) (t : Table) : Type 0 where

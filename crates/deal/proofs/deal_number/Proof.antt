@@ -16,6 +16,9 @@ table-sums-requires c κs = search needs
 is-dealt-requires : tie.Need-is-dealt-requires
 is-dealt-requires c κs = search needs
 
+load-due-requires : tie.Need-load-due-requires
+load-due-requires c κs = search needs
+
 deal-takes-requires : tie.Need-deal-takes-requires
 deal-takes-requires c κs = search needs
 
@@ -34,14 +37,18 @@ asked-requires-4 c κs = search needs
 asked-requires-5 : tie.Need-asked-requires-5
 asked-requires-5 c κs = search needs
 
+asked-requires-6 : tie.Need-asked-requires-6
+asked-requires-6 c κs = search needs
+
 returns : tie.Need-returns
 returns c =
-    let takes = c .before .before .before .before .before in
-    let round = takes .before .before .before .before in
+    let takes = c .before .before .before .before .before .before in
+    let due = takes .before in
+    let round = due .before .before .before .before in
     let summed = round .before in
     let start = summed .before .before .before .before in
-    rw (c .asked5 .ensures, c .before .asked4 .ensures, c .before .before .asked3 .ensures, c .before .before .before .asked2 .ensures, c .before .before .before .before .asked .ensures)
-    (deal-asked (start .args .t) (start .pre) (round .is-dealt .ensures) (summed .table-sums .ensures) (summed .before .cards-left .ensures) (takes .deal-takes .ensures))
+    rw (c .asked6 .ensures, c .before .asked5 .ensures, c .before .before .asked4 .ensures, c .before .before .before .asked3 .ensures, c .before .before .before .before .asked2 .ensures, c .before .before .before .before .before .asked .ensures)
+    (deal-asked (start .args .t) (start .pre) (round .is-dealt .ensures) (summed .table-sums .ensures) (due .load-due .ensures) (summed .before .cards-left .ensures) (takes .deal-takes .ensures))
 
 pub deal-number-spec : {M : Type 1} → statement M
 deal-number-spec =
@@ -51,10 +58,12 @@ deal-number-spec =
     cards-left-requires
     table-sums-requires
     is-dealt-requires
+    load-due-requires
     deal-takes-requires
     asked-requires
     asked-requires-2
     asked-requires-3
     asked-requires-4
     asked-requires-5
+    asked-requires-6
     returns)

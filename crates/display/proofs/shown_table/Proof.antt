@@ -26,15 +26,20 @@ table-sums-requires c κs = search needs
 cards-left-requires : tie.Need-cards-left-requires
 cards-left-requires c κs = search needs
 
+shown-bank-requires : tie.Need-shown-bank-requires
+shown-bank-requires c κs = search needs
+
 returns-2 : tie.Need-returns-2
 unfolding tableShown
 returns-2 c =
-    let t = c .before .before .before .before .before .before .before .args .t in
-    let whole = sym (c .before .before .before .before .before .before .broken .ensures) ∙ c .before .before .before .before .before .if1 .left in
-    let sums = c .before .before .before .before .table-sums in
+    let summed = c .before .before .before .before in
+    let asked = summed .before .before in
+    let t = asked .before .args .t in
+    let whole = sym (asked .broken .ensures) ∙ summed .before .if1 .left in
+    let sums = summed .table-sums in
     let laid : sums .result .laid ≡ layout t = ap (λ (m : Sums). m .laid) (sums .ensures) in
     let own : sums .result .purses ≡ purses t = ap (λ (m : Sums). m .purses) (sums .ensures) ∙ within-capped (t .seats) (omega (arith, unbroken t whole .money)) in
-    rw (whole, laid, own, c .cards-left .ensures)
+    rw (whole, laid, own, c .before .cards-left .ensures, c .shown-bank .ensures)
 
 pub shown-table-spec : {M : Type 1} → statement M
-shown-table-spec = tie.close (tie.spec broken-requires no-table-requires returns table-sums-requires cards-left-requires returns-2)
+shown-table-spec = tie.close (tie.spec broken-requires no-table-requires returns table-sums-requires cards-left-requires shown-bank-requires returns-2)

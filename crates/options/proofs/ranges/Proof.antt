@@ -38,6 +38,15 @@ small-requires-10 c κs = search needs
 small-requires-11 : tie.Need-small-requires-11
 small-requires-11 c κs = search needs
 
+small-requires-12 : tie.Need-small-requires-12
+small-requires-12 c κs = search needs
+
+most-decks-requires : tie.Need-most-decks-requires
+most-decks-requires c κs = search needs
+
+most-later-requires : tie.Need-most-later-requires
+most-later-requires c κs = search needs
+
 cast-range : tie.Need-cast-range
 cast-range c = omega (arith, c .struct-known .given)
 
@@ -59,26 +68,30 @@ range-requires-3 c κs = search needs
 returns : tie.Need-returns
 unfolding ranges
 returns c =
-    let eleven = c .before .before .before .before .before .before in
-    let seven = eleven .before .before .before .before in
-    let three = seven .before .before .before .before in
+    let twelve = c .before .before .before .before .before .before in
+    let eight = twelve .before .before .before .before in
+    let four = eight .before .before .before .before in
+    let two = four .before .before .before in
     simp (
       c .range3 .ensures,
       c .before .range2 .ensures,
       c .before .before .range .ensures,
       c .before .before .before .most-cut .ensures,
       c .before .before .before .before .least-cut .ensures,
-      eleven .small11 .ensures,
-      eleven .before .small10 .ensures,
-      eleven .before .before .small9 .ensures,
-      eleven .before .before .before .small8 .ensures,
-      seven .small7 .ensures,
-      seven .before .small6 .ensures,
-      seven .before .before .small5 .ensures,
-      seven .before .before .before .small4 .ensures,
-      three .small3 .ensures,
-      three .before .small2 .ensures,
-      three .before .before .small .ensures,
+      twelve .small12 .ensures,
+      twelve .before .small11 .ensures,
+      twelve .before .before .small10 .ensures,
+      twelve .before .before .before .small9 .ensures,
+      eight .small8 .ensures,
+      eight .before .small7 .ensures,
+      eight .before .before .small6 .ensures,
+      eight .before .before .before .small5 .ensures,
+      four .small4 .ensures,
+      four .before .most-later .ensures,
+      four .before .before .small3 .ensures,
+      two .small2 .ensures,
+      two .before .most-decks .ensures,
+      two .before .before .small .ensures,
     )
 
 pub ranges-spec : {M : Type 1} → statement M
@@ -86,8 +99,10 @@ ranges-spec =
     tie.close
     (tie.spec
     small-requires
+    most-decks-requires
     small-requires-2
     small-requires-3
+    most-later-requires
     small-requires-4
     small-requires-5
     small-requires-6
@@ -96,6 +111,7 @@ ranges-spec =
     small-requires-9
     small-requires-10
     small-requires-11
+    small-requires-12
     cast-range
     least-cut-requires
     most-cut-requires

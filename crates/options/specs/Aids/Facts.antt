@@ -1,7 +1,9 @@
 -- Document 01, "House options, given at opening", as orders of numbers: what the layers above read of options in range. A least of 0 needs no field.
 use mathlib.Core.Path.{_≡_}
+use mathlib.Core.Bool.{true}
 use Prim.Native.Nat.{_*_, _%_, _≤_}
 use Rattle.options.specs.declared.Options.{Options}
+use Rattle.options.specs.Device.{isBox}
 
 pub record InRange (o : Options) : Type 0 where
   pub seats-least : 6 ≤ o .seats
@@ -21,8 +23,10 @@ pub record InRange (o : Options) : Type 0 where
   pub insurance-most : o .insurance ≤ 2
   pub five-most : o .five ≤ 1
   pub prize-most : o .prize ≤ 1
-  pub cut-one : o .decks ≡ 1 → o .cut ≡ 0
-  pub cut-least : 2 ≤ o .decks → 30 ≤ o .cut
+  pub device-least : 1 ≤ o .device
+  pub device-most : o .device ≤ 3
+  pub box-decks : isBox o ≡ true → o .decks ≡ 1
+  pub box-later : isBox o ≡ true → o .later ≡ 0
   pub cut-most : o .cut ≤ 26 * o .decks
   pub smallest-least : 2 ≤ o .smallest
   pub smallest-most : o .smallest ≤ o .largest

@@ -46,7 +46,7 @@ returns c =
     let at = c .before in
     let sh = at .before .before .before .args .sh in
     let all : at .loop .i ≡ sh .drawn = omega arith in
-    ap (λ (l : List ℕ). makeShoe (sh .order) (sh .drawn) l (sh .drawn)) (at .loop .inv .1 ∙ ap (λ (k : ℕ). sets (sh .discards) 0 (take k (sh .order))) all)
+    ap (λ (l : List ℕ). makeShoe (sh .order) (sh .drawn) l (sh .drawn) (sh .begun)) (at .loop .inv .1 ∙ ap (λ (k : ℕ). sets (sh .discards) 0 (take k (sh .order))) all)
 
 pub discard-drawn-spec : {M : Type 1} → statement M
 discard-drawn-spec =

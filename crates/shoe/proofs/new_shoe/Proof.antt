@@ -11,10 +11,10 @@ use Rattle.shoe.proofs.new_shoe.Statement.{statement}
 use Rattle.shoe.proofs.new_shoe.Tie as tie
 
 abbrev Inv-loop : tie.InvT-loop
-Inv-loop order n empty cards₀ at₀ cards at = (at ≤ n) × (cards ≡ take at order ++ drop at empty)
+Inv-loop order begun n empty cards₀ at₀ cards at = (at ≤ n) × (cards ≡ take at order ++ drop at empty)
 
 abbrev μ-loop : tie.MeasureT-loop
-μ-loop order n empty cards₀ at₀ cards at = n - at
+μ-loop order begun n empty cards₀ at₀ cards at = n - at
 
 no-cards-requires : tie.Need-no-cards-requires Inv-loop μ-loop
 no-cards-requires c κs = search needs
@@ -46,8 +46,8 @@ loop-again c =
 returns : tie.Need-returns Inv-loop μ-loop
 returns c =
     let here = c .before in
-    let order = here .before .before .before .args .order .now in
-    filled order (here .loop .cards) (here .before .no-cards .result) (here .loop .at) (omega arith) (here .before .no-cards .ensures) (here .loop .inv .1)
+    let start = here .before .before .before .args in
+    filled (start .order .now) (here .loop .cards) (here .before .no-cards .result) (here .loop .at) (start .begun) (omega arith) (here .before .no-cards .ensures) (here .loop .inv .1)
 
 pub new-shoe-spec : {M : Type 1} → statement M
 new-shoe-spec =

@@ -8,6 +8,7 @@ use Rattle.cards.specs.Card.{isAce}
 use Rattle.cards.specs.Hand.{cardsOf}
 use Rattle.cards.specs.Length.{couldBePlayed}
 use Rattle.options.specs.declared.Options.{Options}
+use Rattle.options.specs.Device.{bankAtDeal}
 use Rattle.options.specs.Ranges.{inRange}
 use Rattle.rules.specs.declared.seat_hand.SeatHand.{SeatHand}
 use Rattle.table.specs.declared.Seat.{Seat}
@@ -63,6 +64,8 @@ pub record SoundSeat (o : Options) (inRound : Bool) (up i : ℕ) (s : Seat) : Ty
 
 pub record Sound (t : Table) : Type 0 where
   pub options : inRange (t .options) ≡ true
+  pub begun : t .shoe .begun ≤ 1
+  pub begun-drawn : 0 < t .shoe .drawn → t .shoe .begun ≡ 1
   pub valid : validOrder (t .options .decks) (tableOrder t) ≡ true
   pub drawn : t .shoe .drawn ≤ 52 * t .options .decks
   pub discarded : t .shoe .discarded ≤ 416
@@ -71,7 +74,7 @@ pub record Sound (t : Table) : Type 0 where
   pub faces : (b : ℕ) → b < 256 → countOf b (outCards t) ≡ countOf b (tableDrawn t)
   pub number : length (outCards t) ≡ t .shoe .drawn
   pub seats : (i : ℕ) → i < 9 → SoundSeat (t .options) (isDealt t) (up t) i (seatAt t i)
-  pub bank : t .bank .count ≤ 1
+  pub bank : 0 < t .bank .count → t .bank .count ≡ bankAtDeal (t .options)
   pub round : isDealt t ≡ true → someStaked t ≡ true
   pub money : allMoney t ≤ mostMoney
   pub cover : isDealt t ≡ true → allCover t ≤ t .tray + allPrizes t

@@ -20,8 +20,9 @@ returns c =
 
 new-shoe-requires : tie.Need-new-shoe-requires
 new-shoe-requires c κs =
-    let start = c .before .before .before in
-    load-fits (start .args .t) (start .args .order .now) (sym (c .before .load-number .ensures) ∙ c .if1 .left)
+    let asked = c .before .before in
+    let start = asked .before .before in
+    load-fits (start .args .t) (start .args .order .now) (sym (asked .load-number .ensures) ∙ c .before .if1 .left)
 
 with-shoe-requires : tie.Need-with-shoe-requires
 with-shoe-requires c κs = search needs
@@ -29,10 +30,10 @@ with-shoe-requires c κs = search needs
 returns-2 : tie.Need-returns-2
 unfolding loadEffect
 returns-2 c =
-    let asked = c .before .before .before in
+    let asked = c .before .before .before .before in
     let t = asked .before .before .args .t in
     let order = asked .before .before .args .order .now in
-    accepted (loadConditions t order) (loadEffect t order) t _ _ (asked .load-number .ensures) (c .before .before .if1 .left)
+    accepted (loadConditions t order) (loadEffect t order) t _ _ (asked .load-number .ensures) (c .before .before .before .if1 .left)
     (c .with-shoe .ensures ∙ ap (withShoe t) (c .before .new-shoe .ensures))
 
 pub load-spec : {M : Type 1} → statement M

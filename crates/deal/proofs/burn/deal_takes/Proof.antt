@@ -16,12 +16,18 @@ mul-result c = search needs
 add-result : tie.Need-add-result
 add-result c = search needs
 
+bank-at-deal-requires : tie.Need-bank-at-deal-requires
+bank-at-deal-requires c κs = search needs
+
+cast-result : tie.Need-cast-result
+cast-result c = search needs
+
 add-result-2 : tie.Need-add-result-2
 add-result-2 c = search needs
 
 returns : tie.Need-returns
 unfolding dealTakes
-returns c = rw (c .before .burn-at-deal .ensures .0, c .staked-seats .ensures .0)
+returns c = rw (c .before .before .burn-at-deal .ensures .0, c .before .staked-seats .ensures .0, c .bank-at-deal .ensures)
 
 pub deal-takes-spec : {M : Type 1} → statement M
 deal-takes-spec =
@@ -31,5 +37,7 @@ deal-takes-spec =
     staked-seats-requires
     mul-result
     add-result
+    bank-at-deal-requires
+    cast-result
     add-result-2
     returns)

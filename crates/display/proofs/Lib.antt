@@ -1,0 +1,2 @@
+-- The hidden card is in nothing that a display reads.
+pub mod InSight
