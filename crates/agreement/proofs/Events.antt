@@ -16,7 +16,8 @@ use Rattle.table.specs.declared.Table.{Table}
 use Rattle.table.specs.Seat.{missingSeat, hands}
 use Rattle.table.specs.Table.{seatAt, seatsHands}
 use Rattle.table.specs.Progress.{anyDrew, anyDecided}
-use Rattle.history.specs.Entry.{Entry, isStand, isSurrender, isEven, isFive, isDrawing, isDecision}
+use Rattle.history.specs.Entry.{Entry, isDrawing, isDecision}
+use Rattle.agreement.proofs.Groups.{no-drawing}
 
 -- a hand of the seat has ended by a decision; and a decision of the seat was taken
 abbrev pub seatEnded : List Played → Bool
@@ -33,10 +34,6 @@ any-decided t = sym (any-both seatDrew seatEnded true (seatsHands t))
 pub record Events (e : Entry) (was now : List Played) : Type 0 where
   pub drew : seatDrew now ≡ isDrawing e || seatDrew was
   pub decided : seatDecided now ≡ isDecision e || seatDecided was
-
--- one that is no decision draws no card
-pub no-drawing : (e : Entry) → isDecision e ≡ false → isDrawing e ≡ false
-no-drawing e none = or-eq-false (isStand e || isSurrender e || isEven e || isFive e) (isDrawing e) none .1
 
 -- one that draws, one that ends a hand, and one that is no decision
 module _ (e : Entry) (was now : List Played) where

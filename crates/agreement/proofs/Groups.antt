@@ -7,8 +7,9 @@ use native.Mathlib.Decide.{decLe}
 use native.Mathlib.Omega.{arith}
 use lib.Dec.{eqb, leb}
 use borrow.Author.Tests.{eq-eqb, ne-eqb, eqb-false, le-leb, lt-leb}
+use Rattle.lists.proofs.Tests.{or-eq-false}
 use Rattle.call.specs.Call.{kind}
-use Rattle.history.specs.Entry.{Entry, isKind, isFill, isCredit, isBuy, isCash, isStake, isDeal, isInsure, isStand, isDraw, isDouble, isSplit, isSurrender, isEven, isFive, isClose, isVoid, isLoad, isSideOf, isSide, isDecision, isEnd}
+use Rattle.history.specs.Entry.{Entry, isKind, isFill, isCredit, isBuy, isCash, isStake, isDeal, isInsure, isStand, isDraw, isDouble, isSplit, isSurrender, isEven, isFive, isClose, isVoid, isLoad, isSideOf, isSide, isDrawing, isDecision, isEnd}
 
 -- fill, credit and load; buy, cash, stake and side stakes; deal; insure and the decisions; close and void
 abbrev pub ofHouse : ℕ
@@ -52,6 +53,16 @@ not-side-of e none k h =
     ne-eqb (kind (e .call)) (17 + (k + 1)) (λ same.
     let it : isSide e ≡ true = simp (le-leb 18 (kind (e .call)) (omega arith), le-leb (kind (e .call)) 21 (omega arith)) in
     absurd (true≢false (sym it ∙ none)))
+
+-- a call that draws nothing is of none of the three kinds; one that is no decision draws nothing
+pub not-drawing : (e : Entry) → isDrawing e ≡ false → (isDraw e ≡ false) × (isDouble e ≡ false) × (isSplit e ≡ false)
+not-drawing e none =
+    let (two, split) = or-eq-false (isDraw e || isDouble e) (isSplit e) none in
+    let (draw, double) = or-eq-false (isDraw e) (isDouble e) two in
+    (draw, double, split)
+
+pub no-drawing : (e : Entry) → isDecision e ≡ false → isDrawing e ≡ false
+no-drawing e none = or-eq-false (isStand e || isSurrender e || isEven e || isFive e) (isDrawing e) none .1
 
 -- what a call of the group g is not
 module _ (e : Entry) {g : ℕ} (among : InGroup e g) where

@@ -6,4 +6,5 @@ pub mod Quiet
 pub mod Events
 pub mod Fresh
 pub mod OneSeat
+pub mod OneGuest
 pub mod EndOfRound

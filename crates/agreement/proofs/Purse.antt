@@ -1,4 +1,4 @@
--- The history's purse, one call on: its buys, cashes, laid money and prizes grow by so much, and an ended round adds z.
+-- The history's purse of a guest, one call on: its buys, cashes, laid money and prizes grow by so much, and an ended round adds z.
 use mathlib.Core.Path.{_≡_, _∙_, ap, subst}
 use mathlib.Core.Bool.{false, cond, _&&_}
 use mathlib.Core.List.{List, _∷_}
@@ -8,7 +8,7 @@ use lib.IntN.{ℤ, pos, _+ℤ_, _-ℤ_, +ℤ-comm, +ℤ-negℤ-cancel}
 use Rattle.lists.proofs.Tests.{or-eq-false}
 use Rattle.lists.proofs.Differences.{Diff, diff-pos, diff-add, diff-sub, diff-is}
 use Rattle.options.specs.declared.Options.{Options}
-use Rattle.history.specs.Entry.{Entry, isOf, isBuy, isCash, isEnd, isClose, isVoid, amountOf}
+use Rattle.history.specs.Entry.{Entry, isBy, isBuy, isCash, isEnd, isClose, isVoid, amountOf}
 use Rattle.history.specs.Rounds.{stakeIn}
 use Rattle.history.specs.Money.{lays, laidEver, prizesEver, prizeOf, bought, cashed, endsBrought, endBrings, purseOf}
 
@@ -29,12 +29,12 @@ purse-law x next b c l p db dc dl dp E z plus minus d e h =
     (diff-add (diff-add (diff-sub (diff-sub (diff-pos (db + b)) (diff-pos (dc + c))) (diff-pos (dl + l))) (diff-pos (dp + p))) (diff-add d (rounds x b c l p E e)))
     next (omega arith)
 
--- a call that ends no round, of the seat or not
-pub purse-moves : (o : Options) (opening : List ℕ) (es : List Entry) (i : ℕ) (e : Entry) → isEnd e ≡ false → (x next : ℕ) → pos x ≡ purseOf o opening es i
-    → next + cond (isCash e && isOf i e) (amountOf e) 0 + lays i (stakeIn es i) e ≡ x + cond (isBuy e && isOf i e) (amountOf e) 0 + prizeOf o opening es i e
-    → pos next ≡ purseOf o opening (e ∷ es) i
-purse-moves o opening es i e not-end x next p h =
+-- a call that ends no round, of the guest in position p of seat i or not
+pub purse-moves : (o : Options) (opening : List ℕ) (es : List Entry) (i p : ℕ) (e : Entry) → isEnd e ≡ false → (x next : ℕ) → pos x ≡ purseOf o opening es i p
+    → next + cond (isCash e && isBy i p e) (amountOf e) 0 + lays i p (stakeIn es i p) e ≡ x + cond (isBuy e && isBy i p e) (amountOf e) 0 + prizeOf o opening es i p e
+    → pos next ≡ purseOf o opening (e ∷ es) i p
+purse-moves o opening es i p e not-end x next was h =
     let (close, void) = or-eq-false (isClose e) (isVoid e) not-end in
-    purse-law x next (bought es i) (cashed es i) (laidEver es i) (prizesEver o opening es i)
-    (cond (isBuy e && isOf i e) (amountOf e) 0) (cond (isCash e && isOf i e) (amountOf e) 0) (lays i (stakeIn es i) e) (prizeOf o opening es i e)
-    (endsBrought o opening es i) (endBrings o opening es i e) 0 0 (simp (close, void) (diff-pos 0)) p (omega arith)
+    purse-law x next (bought es i p) (cashed es i p) (laidEver es i p) (prizesEver o opening es i p)
+    (cond (isBuy e && isBy i p e) (amountOf e) 0) (cond (isCash e && isBy i p e) (amountOf e) 0) (lays i p (stakeIn es i p) e) (prizeOf o opening es i p e)
+    (endsBrought o opening es i p) (endBrings o opening es i p e) 0 0 (simp (close, void) (diff-pos 0)) was (omega arith)

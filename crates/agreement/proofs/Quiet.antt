@@ -1,6 +1,6 @@
 -- What a call does not touch: the values of a seat that it does not name, the money of every seat where the call is of neither a purse nor a guest,
 -- and every value of a seat where it is of the house.
-use mathlib.Core.Path.{_≡_, refl, sym, _∙_}
+use mathlib.Core.Path.{_≡_, refl, sym, _∙_, ap}
 use mathlib.Core.Bool.{false, _&&_, _||_, and-false}
 use mathlib.Core.List.{List, _∷_}
 use Prim.Native.Nat.{ℕ, _+_, _<_}
@@ -9,21 +9,23 @@ use native.Mathlib.Omega.{arith}
 use Rattle.lists.proofs.Tests.{cond-same, or-eq-false}
 use lib.Dec.{eqb}
 use lib.IntN.{pos}
+use lib.ListN.{getD}
 use Rattle.options.specs.declared.Options.{Options}
+use Rattle.table.specs.declared.Money.{Money}
 use Rattle.table.specs.declared.Seat.{Seat}
-use Rattle.table.specs.Seat.{purse}
-use Rattle.history.specs.Entry.{Entry, isOf, isDeal, isStand, isDraw, isDouble, isSplit, isSurrender, isEven, isFive, isDrawing, isDecision, isEnd, isLoad, isSide}
-use Rattle.history.specs.Rounds.{stakeIn, insuranceIn, sideIn}
+use Rattle.table.specs.Seat.{guestAt, purse, laid, prizes}
+use Rattle.history.specs.Entry.{Entry, isOf, isBy, isBuy, isCash, isStake, isDeal, isInsure, isStand, isDraw, isDouble, isSplit, isSurrender, isEven, isFive, isDrawing, isDecision, isEnd, isLoad, isSide, isSideOf}
+use Rattle.history.specs.Rounds.{stakeIn, sideIn}
 use Rattle.history.specs.Cards.{cardsAfter, callTakes, bankAfter, cardsOfHistory}
 use Rattle.history.specs.Hands.{turnIn, handsAfter, handsIn, decide, firstAfter, firstIn}
-use Rattle.history.specs.Money.{lays, wins, laidIn, prizesIn, purseOf, prizeOf}
-use Rattle.agreement.specs.Aids.Agrees.{SeatAgrees}
-use Rattle.agreement.proofs.Groups.{InGroup, ofHouse, ofPurse, ofGuest, not-buy, not-cash, not-stake, not-side, not-side-of, not-deal, not-insure, not-draw, not-double, not-split, not-decision, not-close, not-void, not-end}
+use Rattle.history.specs.Money.{lays, wins, prizeOf}
+use Rattle.agreement.specs.Aids.Agrees.{GuestAgrees, SeatAgrees}
+use Rattle.agreement.proofs.Groups.{InGroup, ofHouse, ofPurse, not-buy, not-cash, not-stake, not-side, not-side-of, not-deal, not-insure, not-draw, not-double, not-split, not-decision, not-close, not-void, not-end, not-drawing, no-drawing}
 use Rattle.agreement.proofs.Purse.{purse-moves}
 
--- a call that is no side stake leaves those of every seat
-pub sides-stay : (es : List Entry) (i : ℕ) (e : Entry) → isEnd e ≡ false → isSide e ≡ false → (k : ℕ) → k < 4 → sideIn (e ∷ es) i (k + 1) ≡ sideIn es i (k + 1)
-sides-stay es i e no-end none k h = simp (no-end, not-side-of e none k h)
+-- a call that is no side stake leaves those of every guest
+pub sides-stay : (es : List Entry) (i p : ℕ) (e : Entry) → isEnd e ≡ false → isSide e ≡ false → (k : ℕ) → k < 4 → sideIn (e ∷ es) i p (k + 1) ≡ sideIn es i p (k + 1)
+sides-stay es i p e no-end none k h = simp (no-end, not-side-of e none k h)
 
 -- a call that deals nothing, ends nothing and does not split in the seat leaves its first cards
 pub first-stay : (o : Options) (opening : List ℕ) (es : List Entry) (i : ℕ) (e : Entry) → isDeal e ≡ false → isEnd e ≡ false
@@ -32,45 +34,116 @@ pub first-stay : (o : Options) (opening : List ℕ) (es : List Entry) (i : ℕ) 
 unfolding firstAfter
 first-stay o opening es i e no-deal no-end none = simp (no-deal, no-end, none)
 
-module _ (o : Options) (opening : List ℕ) (es : List Entry) (i : ℕ) (e : Entry) (not-end : isEnd e ≡ false) (not-of : isOf i e ≡ false) where
-  stake-other : stakeIn (e ∷ es) i ≡ stakeIn es i
-  stake-other = simp (not-end, not-of, and-false)
+-- what a guest holds, and so what agrees, is the same of two with the same money, laid and won
+pub guest-alike : (o : Options) (opening : List ℕ) (es : List Entry) (i p : ℕ) (r s : Seat) → r .money ≡ s .money → laid r ≡ laid s → prizes o r ≡ prizes o s
+    → GuestAgrees o opening es i p s → GuestAgrees o opening es i p r
+guest-alike o opening es i p r s money same-laid same-prizes a =
+    record {
+      stake-is = ap (λ (m : Money). m .stake) money ∙ a .stake-is;
+      insurance-is = ap (λ (m : Money). m .insurance) money ∙ a .insurance-is;
+      sides-are = λ k h. ap (λ (m : Money). getD (m .sides) k 0) money ∙ a .sides-are k h;
+      laid-is = same-laid ∙ a .laid-is;
+      prizes-are = same-prizes ∙ a .prizes-are;
+      purse-is = ap (λ (m : Money). pos (m .purse)) money ∙ a .purse-is;
+    }
 
-  insurance-other : insuranceIn (e ∷ es) i ≡ insuranceIn es i
-  insurance-other = simp (not-end, not-of, and-false)
+-- a call that lays nothing for a guest in position p of seat i, wins nothing for it and moves no money of its own
+pub record Untouched (o : Options) (opening : List ℕ) (es : List Entry) (i p : ℕ) (e : Entry) : Type 0 where
+  pub no-end : isEnd e ≡ false
+  pub no-stake : isStake e && isBy i p e ≡ false
+  pub no-insurance : isInsure e && isBy i p e ≡ false
+  pub no-side : (k : ℕ) → k < 4 → isSideOf (k + 1) e && isBy i p e ≡ false
+  pub no-buy : isBuy e && isBy i p e ≡ false
+  pub no-cash : isCash e && isBy i p e ≡ false
+  pub no-laying : lays i p (stakeIn es i p) e ≡ 0
+  pub no-prize : prizeOf o opening es i p e ≡ 0
 
-  sides-other : (k : ℕ) → sideIn (e ∷ es) i k ≡ sideIn es i k
-  sides-other k = simp (not-end, not-of, and-false)
+pub untouched-guest : (o : Options) (opening : List ℕ) (es : List Entry) (i p : ℕ) (e : Entry) → Untouched o opening es i p e → (s : Seat) → GuestAgrees o opening es i p s → GuestAgrees o opening (e ∷ es) i p s
+untouched-guest o opening es i p e u s a =
+    record {
+      stake-is = a .stake-is ∙ sym (simp (u .no-end, u .no-stake));
+      insurance-is = a .insurance-is ∙ sym (simp (u .no-end, u .no-insurance));
+      sides-are = λ k h. a .sides-are k h ∙ sym (simp (u .no-end, u .no-side k h));
+      laid-is = a .laid-is ∙ sym (simp (u .no-end) (omega (arith, u .no-laying)));
+      prizes-are = a .prizes-are ∙ sym (simp (u .no-end) (omega (arith, u .no-prize)));
+      purse-is = purse-moves o opening es i p e (u .no-end) (purse s) (purse s) (a .purse-is) (simp (u .no-buy, u .no-cash) (omega (arith, u .no-laying, u .no-prize)));
+    }
 
-  lays-none : (S : ℕ) → lays i S e ≡ 0
+-- a call that does not name the seat
+module _ (o : Options) (opening : List ℕ) (es : List Entry) (i : ℕ) (e : Entry) (no-end : isEnd e ≡ false) (not-of : isOf i e ≡ false) where
+  lays-none : (p S : ℕ) → lays i p S e ≡ 0
   unfolding lays
-  lays-none S = simp not-of
+  lays-none p S = simp not-of
 
-  laid-other : laidIn (e ∷ es) i ≡ laidIn es i
-  laid-other = simp not-end (omega (arith, lays-none (stakeIn es i)))
-
-  prize-none : prizeOf o opening es i e ≡ 0
+  prize-none : (p : ℕ) → prizeOf o opening es i p e ≡ 0
   unfolding wins
-  prize-none = simp not-of
+  prize-none p = simp not-of
 
-  prizes-other : prizesIn o opening (e ∷ es) i ≡ prizesIn o opening es i
-  prizes-other = simp not-end (omega (arith, prize-none))
-
-  purse-other : (x : ℕ) → pos x ≡ purseOf o opening es i → pos x ≡ purseOf o opening (e ∷ es) i
-  purse-other x p = purse-moves o opening es i e not-end x x p (simp (not-of, and-false) (omega (arith, lays-none (stakeIn es i), prize-none)))
+  other-guests : (p : ℕ) → Untouched o opening es i p e
+  other-guests p =
+      record {
+        no-end = no-end;
+        no-stake = simp (not-of, and-false);
+        no-insurance = simp (not-of, and-false);
+        no-side = λ k h. simp (not-of, and-false);
+        no-buy = simp (not-of, and-false);
+        no-cash = simp (not-of, and-false);
+        no-laying = lays-none p (stakeIn es i p);
+        no-prize = prize-none p;
+      }
 
   pub other-seat : handsIn o opening (e ∷ es) i ≡ handsIn o opening es i → firstIn o opening (e ∷ es) i ≡ firstIn o opening es i → (s : Seat) → SeatAgrees o opening es i s → SeatAgrees o opening (e ∷ es) i s
   other-seat hands-other first-other s a =
       record {
-        stake-is = a .stake-is ∙ sym stake-other;
-        insurance-is = a .insurance-is ∙ sym insurance-other;
-        sides-are = λ k h. a .sides-are k h ∙ sym (sides-other (k + 1));
         hands-are = a .hands-are ∙ sym hands-other;
         first-is = λ some. a .first-is some ∙ sym first-other;
-        laid-is = a .laid-is ∙ sym laid-other;
-        prizes-are = a .prizes-are ∙ sym prizes-other;
-        purse-is = purse-other (purse s) (a .purse-is);
+        guests = λ p. untouched-guest o opening es i p e (other-guests p) (guestAt s p) (a .guests p);
       }
+
+-- a call that draws no card, doubles and splits nothing
+module _ (o : Options) (opening : List ℕ) (es : List Entry) (i p : ℕ) (e : Entry) (none : isDrawing e ≡ false) where
+  pub prize-undrawn : prizeOf o opening es i p e ≡ 0
+  unfolding wins
+  prize-undrawn = let (draw, double, split) = not-drawing e none in simp (draw, double, and-false)
+
+  -- which is of another guest
+  lays-by : isBy i p e ≡ false → lays i p (stakeIn es i p) e ≡ 0
+  unfolding lays
+  lays-by not-by = let (draw, double, split) = not-drawing e none in simp (double, split, not-by, cond-same)
+
+  pub other-guest : isEnd e ≡ false → isBy i p e ≡ false → Untouched o opening es i p e
+  other-guest no-end not-by =
+      record {
+        no-end = no-end;
+        no-stake = simp (not-by, and-false);
+        no-insurance = simp (not-by, and-false);
+        no-side = λ k h. simp (not-by, and-false);
+        no-buy = simp (not-by, and-false);
+        no-cash = simp (not-by, and-false);
+        no-laying = lays-by not-by;
+        no-prize = prize-undrawn;
+      }
+
+  -- which is of no purse and no insurance
+  module _ {g : ℕ} (among : InGroup e g) (no-purse : eqb ofPurse g ≡ false) (no-insure : isInsure e ≡ false) where
+    pub lays-unmoved : lays i p (stakeIn es i p) e ≡ 0
+    unfolding lays
+    lays-unmoved =
+        let (draw, double, split) = not-drawing e none in
+        simp (double, split, not-stake e among no-purse, not-side e among no-purse, no-insure, and-false, cond-same)
+
+    pub no-money : isEnd e ≡ false → Untouched o opening es i p e
+    no-money no-end =
+        record {
+          no-end = no-end;
+          no-stake = simp (not-stake e among no-purse);
+          no-insurance = simp no-insure;
+          no-side = λ k h. simp (not-side-of e (not-side e among no-purse) k h);
+          no-buy = simp (not-buy e among no-purse);
+          no-cash = simp (not-cash e among no-purse);
+          no-laying = lays-unmoved;
+          no-prize = prize-undrawn;
+        }
 
 -- a call that is no decision changes no hand, whosever turn it is
 pub hands-stay : (o : Options) (opening : List ℕ) (es : List Entry) (i : ℕ) (e : Entry) → isDeal e ≡ false → isEnd e ≡ false → isDecision e ≡ false
@@ -85,31 +158,15 @@ hands-stay o opening es i e no-deal no-end none =
     let (draw, double) = or-eq-false (isDraw e) (isDouble e) both in
     simp (no-deal, no-end, surrender, stand, draw, double, split, even, five) (cond-same (eqb i (turnIn o (cardsOfHistory o opening es) (λ k. handsIn o opening es k))) (handsIn o opening es i))
 
--- a call of neither a purse nor a guest lays nothing and wins nothing
-module _ (o : Options) (opening : List ℕ) (es : List Entry) (i : ℕ) (e : Entry) {g : ℕ} (among : InGroup e g) (no-purse : eqb ofPurse g ≡ false) (no-guest : eqb ofGuest g ≡ false) where
-  pub lays-nothing : (S : ℕ) → lays i S e ≡ 0
-  unfolding lays
-  lays-nothing S = simp (not-stake e among no-purse, not-side e among no-purse, not-insure e among no-guest, not-double e among no-guest, not-split e among no-guest, cond-same)
-
-  pub wins-nothing : prizeOf o opening es i e ≡ 0
-  unfolding wins
-  wins-nothing = simp (not-draw e among no-guest, not-double e among no-guest, and-false)
-
 -- a call of the house changes no value of a seat
 pub house-seat : (o : Options) (opening : List ℕ) (es : List Entry) (i : ℕ) (e : Entry) → InGroup e ofHouse → (s : Seat) → SeatAgrees o opening es i s → SeatAgrees o opening (e ∷ es) i s
 house-seat o opening es i e h s a =
-    let lays-none = lays-nothing o opening es i e h refl refl (stakeIn es i) in
-    let wins-none = wins-nothing o opening es i e h refl refl in
     let ends-none = not-end e h refl in
+    let decides-none = not-decision e h refl in
     record {
-      stake-is = a .stake-is ∙ sym (simp (ends-none, not-stake e h refl));
-      insurance-is = a .insurance-is ∙ sym (simp (ends-none, not-insure e h refl));
-      sides-are = λ k l. a .sides-are k l ∙ sym (sides-stay es i e ends-none (not-side e h refl) k l);
+      hands-are = a .hands-are ∙ sym (hands-stay o opening es i e (not-deal e h refl) ends-none decides-none);
       first-is = λ some. a .first-is some ∙ sym (first-stay o opening es i e (not-deal e h refl) ends-none (simp (not-split e h refl)));
-      hands-are = a .hands-are ∙ sym (hands-stay o opening es i e (not-deal e h refl) ends-none (not-decision e h refl));
-      laid-is = a .laid-is ∙ sym (simp ends-none (omega (arith, lays-none)));
-      prizes-are = a .prizes-are ∙ sym (simp ends-none (omega (arith, wins-none)));
-      purse-is = purse-moves o opening es i e ends-none (purse s) (purse s) (a .purse-is) (simp (not-buy e h refl, not-cash e h refl) (omega (arith, lays-none, wins-none)));
+      guests = λ p. untouched-guest o opening es i p e (no-money o opening es i p e (no-drawing e decides-none) h refl (not-insure e h refl) ends-none) (guestAt s p) (a .guests p);
     }
 
 -- the history's cards stay at such a call, unless it is a load

@@ -18,6 +18,7 @@ pub(crate) fn options_of(decks: u8) -> Options {
         five: 1,
         prize: 1,
         device: 1,
+        decider: 1,
         cut,
         smallest: 2,
         largest: 1000,

@@ -74,7 +74,10 @@ fn decision(p: Plan, at: At) -> Call {
 }
 
 pub(crate) fn chosen(p: Plan) -> Call {
-    let at = At { seat: p.seat };
+    let at = At {
+        seat: p.seat,
+        position: 0,
+    };
     let stage = p.stage;
     match stage {
         FILL => Call::Fill(100000),
@@ -87,7 +90,13 @@ pub(crate) fn chosen(p: Plan) -> Call {
         CLOSE => Call::Close,
         VOID => Call::Void,
         LOAD => Call::Load,
-        _ => decision(p, At { seat: p.turn }),
+        _ => decision(
+            p,
+            At {
+                seat: p.turn,
+                position: 0,
+            },
+        ),
     }
 }
 

@@ -53,14 +53,14 @@ module _ (opening : List ℕ) (es : List Entry) (t : Table) (g : Good opening es
       let c = a .cards in
       record {
         balance = diff-is (diff-sub (diff-pos (cameIn es)) (diff-pos (wentOut es))) (allMoney t) (omega (arith, a .balance));
-        purse-is = λ i. a .seats i .purse-is;
-        layout-is = λ i. a .seats i .laid-is;
-        stake-is = λ i. a .seats i .stake-is;
-        insurance-is = λ i. a .seats i .insurance-is;
-        sides-are = λ i k least most. a .seats i .sides-are (k - 1) (omega arith) ∙ ap (sideIn es i) (back k least);
+        purse-is = λ i p. a .seats i .guests p .purse-is;
+        layout-is = λ i p. a .seats i .guests p .laid-is;
+        stake-is = λ i p. a .seats i .guests p .stake-is;
+        insurance-is = λ i p. a .seats i .guests p .insurance-is;
+        sides-are = λ i p k least most. a .seats i .guests p .sides-are (k - 1) (omega arith) ∙ ap (sideIn es i p) (back k least);
         first-is = λ i. a .seats i .first-is;
         hands-are = λ i. a .seats i .hands-are;
-        wagers-are = λ i. ap₂ (λ (S : ℕ) (hs : List Played). map (wager S) hs) (a .seats i .stake-is) (a .seats i .hands-are);
+        wagers-are = λ i p. ap₂ (λ (S : ℕ) (hs : List Played). map (wager S) hs) (a .seats i .guests p .stake-is) (a .seats i .hands-are);
         bank-is = c .bank;
         drew-is = a .drew;
         decided-is = a .decided;

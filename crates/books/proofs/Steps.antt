@@ -35,7 +35,7 @@ use Rattle.decisions_spec.specs.Turn.{endEffect}
 use Rattle.decisions_spec.specs.Card.{cardEffect}
 use Rattle.decisions_spec.specs.Split.{splitEffect}
 use Rattle.decisions_spec.proofs.Decision.{decision-kept, decision-good}
-use Rattle.decisions_spec.proofs.Insure.{insure-decides}
+use Rattle.decisions_spec.proofs.Insure.{insure-kept, insure-good}
 use Rattle.decisions_spec.proofs.Stand.{stand-decides}
 use Rattle.decisions_spec.proofs.Even.{even-decides}
 use Rattle.decisions_spec.proofs.Five.{five-decides}
@@ -56,7 +56,7 @@ step-good opening es t (Cash at n) order g e = cash-good opening es t at n order
 step-good opening es t (Stake at n) order g e = stake-good opening es t at n order g e
 step-good opening es t (Side at k n) order g e = side-good opening es t at k n order g e
 step-good opening es t Deal order g e = deal-good opening es t order g e
-step-good opening es t (Insure at n) order g e = decision-good t _ _ (insure-decides t at n order (g .shaped) (g .sound) e) opening es g
+step-good opening es t (Insure at n) order g e = insure-good opening es t at n order g e
 step-good opening es t (Stand at) order g e = decision-good t _ _ (stand-decides t at order (g .shaped) (g .sound) e) opening es g
 step-good opening es t (Draw at) order g e = decision-good t _ _ (draw-decides t at order (g .shaped) (g .sound) e) opening es g
 step-good opening es t (Double at) order g e = decision-good t _ _ (double-decides t at order (g .shaped) (g .sound) e) opening es g
@@ -72,12 +72,12 @@ step-good opening es t Load order g e = load-good opening es t order g e
 pub step-kept : (t : Table) (c : Call) (order : List ℕ) → Shaped t → Sound t → first (conditions t c order) ≡ 0 → Shaped (effect t c order) × Sound (effect t c order)
 step-kept t (Fill n) order shaped sound e = fill-kept t n shaped sound e
 step-kept t (Credit n) order shaped sound e = credit-kept t n shaped sound e
-step-kept t (Buy at n) order shaped sound e = buy-kept t (at .seat) n shaped sound e
-step-kept t (Cash at n) order shaped sound e = cash-kept t (at .seat) n shaped sound e
-step-kept t (Stake at n) order shaped sound e = stake-kept t (at .seat) n shaped sound e
-step-kept t (Side at k n) order shaped sound e = side-kept t (at .seat) k n shaped sound e
+step-kept t (Buy at n) order shaped sound e = buy-kept t (at .seat) (at .position) n shaped sound e
+step-kept t (Cash at n) order shaped sound e = cash-kept t (at .seat) (at .position) n shaped sound e
+step-kept t (Stake at n) order shaped sound e = stake-kept t (at .seat) (at .position) n shaped sound e
+step-kept t (Side at k n) order shaped sound e = side-kept t (at .seat) (at .position) k n shaped sound e
 step-kept t Deal order shaped sound e = deal-kept t shaped sound e
-step-kept t (Insure at n) order shaped sound e = decision-kept t _ _ (insure-decides t at n order shaped sound e) shaped sound
+step-kept t (Insure at n) order shaped sound e = insure-kept t (at .seat) (at .position) n shaped sound e
 step-kept t (Stand at) order shaped sound e = decision-kept t _ _ (stand-decides t at order shaped sound e) shaped sound
 step-kept t (Draw at) order shaped sound e = decision-kept t _ _ (draw-decides t at order shaped sound e) shaped sound
 step-kept t (Double at) order shaped sound e = decision-kept t _ _ (double-decides t at order shaped sound e) shaped sound

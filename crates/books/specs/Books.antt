@@ -12,7 +12,7 @@ use Rattle.table.specs.declared.Table.{Table}
 use Rattle.payment.specs.Wager.{wager}
 use Rattle.payment.specs.Bets.{side}
 use Rattle.table.specs.Seat.{purse, stake, insurance, sides, hands, firstCards, laid}
-use Rattle.table.specs.Table.{seatAt, handCards, bankCards, tableShoe, cardsLeft, tableDiscards}
+use Rattle.table.specs.Table.{seatAt, guestOf, handCards, bankCards, tableShoe, cardsLeft, tableDiscards}
 use Rattle.table.specs.Progress.{anyDrew, anyDecided}
 use Rattle.table.specs.Money.{layout, purses}
 use Rattle.table.specs.Broken.{broken}
@@ -28,19 +28,19 @@ use Rattle.engine.specs.Run.{run, accepted}
 pub record Claim (o : Options) (opening : List ℕ) (es : List Entry) (t : Table) : Type 0 where
   -- tray + layout + purses = accepted fills + buys − credits − cashes
   pub balance : pos (t .tray + layout t + purses t) ≡ pos (cameIn es) -ℤ pos (wentOut es)
-  -- each seat's purse and layout money equal the history's
-  pub purse-is : (i : ℕ) → pos (purse (seatAt t i)) ≡ purseOf o opening es i
-  pub layout-is : (i : ℕ) → laid (seatAt t i) ≡ laidIn es i
-  -- and so do its stake and its insurance
-  pub stake-is : (i : ℕ) → stake (seatAt t i) ≡ stakeIn es i
-  pub insurance-is : (i : ℕ) → insurance (seatAt t i) ≡ insuranceIn es i
-  -- its side stakes by kind, and in a dealt round the first cards that they are paid by (request 2.6)
-  pub sides-are : (i k : ℕ) → 1 ≤ k → k ≤ 4 → side (sides (seatAt t i)) k ≡ sideIn es i k
+  -- each guest's purse and layout money equal the history's, for every seat and position (request 2.8)
+  pub purse-is : (i p : ℕ) → pos (purse (guestOf t i p)) ≡ purseOf o opening es i p
+  pub layout-is : (i p : ℕ) → laid (guestOf t i p) ≡ laidIn es i p
+  -- and so do stake and insurance
+  pub stake-is : (i p : ℕ) → stake (guestOf t i p) ≡ stakeIn es i p
+  pub insurance-is : (i p : ℕ) → insurance (guestOf t i p) ≡ insuranceIn es i p
+  -- the side stakes by kind, and in a dealt round the first cards of the seat that they are paid by (request 2.6)
+  pub sides-are : (i p k : ℕ) → 1 ≤ k → k ≤ 4 → side (sides (guestOf t i p)) k ≡ sideIn es i p k
   pub first-is : (i : ℕ) → 0 < length (hands (seatAt t i)) → firstCards (seatAt t i) ≡ firstIn o opening es i
   -- the hands of each seat, their number and their cards place by place, and the bank's cards equal the history's
   pub hands-are : (i : ℕ) → hands (seatAt t i) ≡ handsIn o opening es i
-  -- and each hand's W
-  pub wagers-are : (i : ℕ) → map (wager (stake (seatAt t i))) (hands (seatAt t i)) ≡ map (wager (stakeIn es i)) (handsIn o opening es i)
+  -- and each hand's W, by each guest's own stake
+  pub wagers-are : (i p : ℕ) → map (wager (stake (guestOf t i p))) (hands (seatAt t i)) ≡ map (wager (stakeIn es i p)) (handsIn o opening es i)
   pub bank-is : bankCards t ≡ cardsOfHistory o opening es .bank
   -- what number 12 asks of the table's hands is what the accepted calls of the round say: that somebody has drawn, doubled or split, and that a decision
   -- was taken

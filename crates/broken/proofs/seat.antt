@@ -1,2 +1,3 @@
--- Laws of the side stakes of a seat.
+-- Laws of the side stakes of a seat, and of its guests' tests and sums together.
 pub mod Laws
+pub mod Guests

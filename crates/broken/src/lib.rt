@@ -4,29 +4,24 @@ mod hand;
 mod seat;
 
 ghost use mathlib.Core.Path.{_≡_};
-ghost use mathlib.Core.Bool.{_&&_};
+ghost use mathlib.Core.Bool.{true, _&&_};
 ghost use Rattle.lists.specs.Below.{allBelow};
 ghost use Rattle.table.specs.Broken.{seatSound, soundBegun, soundBank, soundMoney, sound as isSound, broken as isBroken};
 ghost use Rattle.money.specs.Sums.{tableSums};
 ghost use Rattle.broken.specs.Aids.OfSeats.{OfSeats};
-use crate::seat::sound_seat;
+use crate::seat::Survey;
+use crate::seat::surveyed_seat;
 use card_count::conserved::cards_conserved;
 use money::most_money::past_most_money;
 use money::sums::Sums;
+use money::sums::no_sums;
 use money::sums::plus;
-use money::sums::seat_sums;
 use options::device::bank_at_deal;
 use options::in_range;
 use state::round::is_dealt;
 use state::round::up;
 use table::Shoe;
 use table::Table;
-
-// What one pass over the seats gives: whether each is sound, and, where each is, their sums.
-struct Survey {
-    sound: bool,
-    sums: Sums,
-}
 
 // The pass over the nine seats. They are taken out of the table first, so that the loop keeps a copy of the seats alone.
 fn surveyed(t: Table) -> Survey
@@ -35,21 +30,15 @@ fn surveyed(t: Table) -> Survey
     let o = t.options;
     let dealt = is_dealt(t);
     let card = up(t);
-    let mut sums = Sums {
-        stakes: 0,
-        laid: 0,
-        prizes: 0,
-        cover: 0,
-        purses: 0,
-    };
+    let mut sums = no_sums();
     let seats = t.seats;
     for i in 0usize..9 {
         let s = seats[i];
-        let m = seat_sums(o, s);
-        if !sound_seat(o, dealt, card, i, s, m) {
+        let one = surveyed_seat(o, dealt, card, i, s);
+        if !one.sound {
             return Survey { sound: false, sums };
         }
-        sums = plus(sums, m);
+        sums = plus(sums, one.sums);
     }
     Survey { sound: true, sums }
 }
@@ -61,9 +50,11 @@ fn begun_sound(sh: Shoe) -> bool
     sh.begun <= 1 && (sh.drawn == 0 || sh.begun == 1)
 }
 
-// The bank has no card, or those of a deal in a round with a stake. `m`: the sums over the seats, worked out once.
+// The bank has no card, or those of a deal in a round with a stake. `m`: the sums over the seats, worked out once. It asks that the seats are sound: then who
+// stakes, stakes beside the seated guest.
 fn bank_sound(t: Table, m: Sums) -> bool
-    requires { ⌜ m ≡ tableSums t ⌝ }
+    requires sums { ⌜ m ≡ tableSums t ⌝ }
+    requires seats { ⌜ allBelow (seatSound t) 9 ≡ true ⌝ }
     ensures { λ r. ⌜ r ≡ soundBank t ⌝ }
 {
     let bank = t.bank;

@@ -1,39 +1,45 @@
-// Whether a seat of any table value is sound (docs/BROKEN.md, 4): its number, stake, insurance, hands and prizes, tested as
+// Whether a seat of any table value is sound (docs/BROKEN.md, 4): number, stake, insurance, side stakes and prizes of each guest, and its hands, tested as
 // `table/specs/Broken.antt` does. `in_round`: a round is dealt; `up`: the up card. Every damaged value is taken.
 ghost use mathlib.Core.Path.{_≡_};
-ghost use Prim.Native.Nat.{_+_};
-ghost use lib.Dec.{leb, eqb};
+ghost use mathlib.Core.Bool.{_&&_};
+ghost use Prim.Native.Nat.{_+_, _<_};
+ghost use lib.Dec.{leb};
 ghost use lib.ListN.{getD};
 ghost use Rattle.lists.specs.Below.{allBelow};
 ghost use Rattle.options.specs.Permitted.{mostSide};
-ghost use Rattle.table.specs.Seat.{purse};
-ghost use Rattle.table.specs.Broken.{soundNumber, soundStake, soundInsurance, soundSides, soundHands, soundSeat};
-ghost use Rattle.money.specs.Sums.{seatSums};
+ghost use Rattle.table.specs.Seat.{guestAt, eachGuest, purse};
+ghost use Rattle.table.specs.Broken.{soundNumber, soundStake, soundInsurance, soundSides, soundHands, soundGuest, seatedFirst, soundSeat};
+ghost use Rattle.money.specs.Sums.{guestSums, seatSums, plusSums};
+ghost use Rattle.money.specs.SumsFit.{SumsFit};
+ghost use Rattle.broken.specs.Aids.Surveyed.{Surveyed};
 use crate::hand::all_sound;
 use cards::card::is_ace;
 use money::sums::Sums;
+use money::sums::guest_sums;
+use money::sums::no_sums;
+use money::sums::plus;
 use options::Options;
 use options::permitted::insurance_permitted;
 use options::permitted::stake_permitted;
+use state::seat::guest_at;
+use state::seat::no_money;
+use state::seat::no_sides;
+use state::seat::nobody_beside;
 use table::Seat;
 
-// No side stake lies there.
-fn no_sides(sides: [u32; 4]) -> bool
-    ensures { λ r. ⌜ r ≡ allBelow (λ k. eqb (getD sides k 0) 0) 4 ⌝ }
-{
-    sides[0] == 0 && (sides[1] == 0 && (sides[2] == 0 && sides[3] == 0))
+// What a test of guests gives: whether they are sound, and their sums, which are so worked out once.
+pub(crate) struct Survey {
+    pub(crate) sound: bool,
+    pub(crate) sums: Sums,
 }
 
-// A seat beyond the option holds nothing.
+// A guest of a seat beyond the option holds nothing.
 fn sound_number(o: Options, i: usize, s: Seat) -> bool
     ensures { λ r. ⌜ r ≡ soundNumber o i s ⌝ }
 {
     let m = s.money;
-    let sides = m.sides;
     let hands = s.hands;
-    i < (o.seats as usize)
-        || (m.purse == 0
-            && (m.stake == 0 && (m.insurance == 0 && (no_sides(sides) && hands.many == 0))))
+    i < (o.seats as usize) || (no_money(m) && hands.many == 0)
 }
 
 fn sound_stake(o: Options, s: Seat) -> bool
@@ -88,13 +94,97 @@ fn sound_prizes(s: Seat, m: Sums) -> bool
     m.prizes <= money.purse || m.prizes - money.purse <= m.laid
 }
 
-// Public for broken alone, which works the seat's sums out once: so it asks that `m` is these.
-pub(crate) fn sound_seat(o: Options, in_round: bool, up: u8, i: usize, s: Seat, m: Sums) -> bool
-    requires { ⌜ m ≡ seatSums o s ⌝ }
-    ensures { λ r. ⌜ r ≡ soundSeat o in_round up i s ⌝ }
+// A guest, as if alone at the seat; `m` are the guest's sums.
+fn sound_guest(o: Options, in_round: bool, up: u8, i: usize, s: Seat, m: Sums) -> bool
+    requires { ⌜ m ≡ guestSums o s ⌝ }
+    ensures { λ r. ⌜ r ≡ soundGuest o in_round up i s ⌝ }
 {
     sound_number(o, i, s)
         && (sound_stake(o, s)
-            && (sound_insurance(o, in_round, up, s)
-                && (sound_sides(s) && (sound_hands(o, in_round, up, s) && sound_prizes(s, m)))))
+            && (sound_insurance(o, in_round, up, s) && (sound_sides(s) && sound_prizes(s, m))))
+}
+
+fn surveyed_guest(o: Options, in_round: bool, up: u8, i: usize, s: Seat) -> Survey
+    ensures { λ r. ⌜ Surveyed (soundGuest o in_round up i s) (guestSums o s) 1 r ⌝ }
+{
+    let sums = guest_sums(o, s);
+    let sound = sound_guest(o, in_round, up, i, s, sums);
+    Survey { sound, sums }
+}
+
+// A guest beside the seated one. Most seats have none: then nothing but the seat's number is asked.
+fn surveyed_other(o: Options, in_round: bool, up: u8, i: usize, s: Seat, p: u8) -> Survey
+    requires { ⌜ p < 3 ⌝ }
+    ensures { λ r. ⌜ Surveyed (soundGuest o in_round up i (guestAt s p)) (guestSums o (guestAt s p)) 1 r ⌝ }
+{
+    let g = guest_at(s, p);
+    let money = g.money;
+    if no_money(money) {
+        return Survey {
+            sound: sound_number(o, i, g),
+            sums: no_sums(),
+        };
+    }
+    surveyed_guest(o, in_round, up, i, g)
+}
+
+// Two groups of guests. It asks that their sums are those of at most 27.
+fn together(a: Survey, b: Survey) -> Survey
+    requires left { ⌜ SumsFit 27 (a .sums) ⌝ }
+    requires right { ⌜ SumsFit 27 (b .sums) ⌝ }
+    ensures sound { λ r. ⌜ r .sound ≡ (a .sound && b .sound) ⌝ }
+    ensures sums { λ r. ⌜ r .sums ≡ plusSums (a .sums) (b .sums) ⌝ }
+{
+    let sums = plus(a.sums, b.sums);
+    if !a.sound {
+        return Survey { sound: false, sums };
+    }
+    Survey {
+        sound: b.sound,
+        sums,
+    }
+}
+
+// The seated guest stakes first.
+fn seated_first(s: Seat) -> bool
+    ensures { λ r. ⌜ r ≡ seatedFirst s ⌝ }
+{
+    let seated = s.money;
+    let one = s.others[0];
+    let two = s.others[1];
+    0 < seated.stake || (one.stake == 0 && two.stake == 0)
+}
+
+// What the guests of a seat share.
+fn sound_shared(o: Options, in_round: bool, up: u8, s: Seat) -> bool
+    ensures { λ r. ⌜ r ≡ (seatedFirst s && soundHands o in_round up s) ⌝ }
+{
+    seated_first(s) && sound_hands(o, in_round, up, s)
+}
+
+// The three guests of a seat, or the seated one where nobody bets beside.
+fn surveyed_guests(o: Options, in_round: bool, up: u8, i: usize, s: Seat) -> Survey
+    ensures { λ r. ⌜ Surveyed (eachGuest (soundGuest o in_round up i) s) (seatSums o s) 3 r ⌝ }
+{
+    let seated = surveyed_guest(o, in_round, up, i, s);
+    let others = s.others;
+    if nobody_beside(others) {
+        return seated;
+    }
+    let one = surveyed_other(o, in_round, up, i, s, 1);
+    let two = surveyed_other(o, in_round, up, i, s, 2);
+    together(together(seated, one), two)
+}
+
+// The seat: each of its guests, and what they share.
+pub(crate) fn surveyed_seat(o: Options, in_round: bool, up: u8, i: usize, s: Seat) -> Survey
+    ensures { λ r. ⌜ Surveyed (soundSeat o in_round up i s) (seatSums o s) 3 r ⌝ }
+{
+    let guests = surveyed_guests(o, in_round, up, i, s);
+    if !guests.sound {
+        return guests;
+    }
+    let sums = guests.sums;
+    let sound = sound_shared(o, in_round, up, s);
+    Survey { sound, sums }
 }

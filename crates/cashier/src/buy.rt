@@ -1,4 +1,5 @@
-// buy: a seat's purse up (document 01, "The seventeen calls"). For every whole table, seat and amount its outcome is that of cashier_spec/specs/Buy.antt.
+// buy: a guest's purse up (document 01, "The seventeen calls"; request 2.8). For every whole table, guest and amount its outcome is that of
+// cashier_spec/specs/Buy.antt.
 ghost use mathlib.Core.Path.{_≡_};
 ghost use mathlib.Core.Bool.{false};
 ghost use Rattle.call.specs.Refusal.{first};
@@ -7,7 +8,7 @@ ghost use Rattle.cashier_spec.specs.Buy.{buyConditions, buyEffect};
 ghost use Rattle.table.specs.Broken.{broken};
 use crate::purse::purse_at;
 use crate::purse::with_purse_at;
-use answer::conditions::seat_number;
+use answer::conditions::guest_number;
 use answer::outcome::Outcome;
 use call::At;
 use call::refusal::asked;
@@ -16,13 +17,13 @@ use money::sums::table_sums;
 use state::round::is_dealt;
 use table::Table;
 
-// The number of a buy: what every call of a seat asks first, then the rest of its list.
+// The number of a buy: what every call of a guest asks first, then the rest of its list.
 fn buy_number(t: Table, at: At, n: u64) -> u8
     requires { ⌜ broken t ≡ false ⌝ }
-    ensures { λ r. ⌜ r ≡ first (buyConditions t (at .seat) n) ⌝ }
+    ensures { λ r. ⌜ r ≡ first (buyConditions t (at .seat) (at .position) n) ⌝ }
 {
     let o = t.options;
-    let early = seat_number(4, is_dealt(t), o.seats, at.seat);
+    let early = guest_number(4, is_dealt(t), o.seats, at);
     if early != 0 {
         return early;
     }
@@ -35,7 +36,7 @@ fn buy_number(t: Table, at: At, n: u64) -> u8
 
 pub fn buy(t: Table, at: At, n: u64) -> Outcome
     requires { ⌜ broken t ≡ false ⌝ }
-    ensures { λ r. ⌜ r ≡ outcome (buyConditions t (at .seat) n) (buyEffect t (at .seat) n) t ⌝ }
+    ensures { λ r. ⌜ r ≡ outcome (buyConditions t (at .seat) (at .position) n) (buyEffect t (at .seat) (at .position) n) t ⌝ }
 {
     let number = buy_number(t, at, n);
     if number != 0 {

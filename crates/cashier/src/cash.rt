@@ -1,4 +1,5 @@
-// cash: a seat's purse down (document 01, "The seventeen calls"). For every whole table, seat and amount its outcome is that of cashier_spec/specs/Cash.antt.
+// cash: a guest's purse down (document 01, "The seventeen calls"; request 2.8). For every whole table, guest and amount its outcome is that of
+// cashier_spec/specs/Cash.antt.
 ghost use mathlib.Core.Path.{_≡_};
 ghost use mathlib.Core.Bool.{false};
 ghost use Rattle.call.specs.Refusal.{first};
@@ -7,20 +8,20 @@ ghost use Rattle.cashier_spec.specs.Cash.{cashConditions, cashEffect};
 ghost use Rattle.table.specs.Broken.{broken};
 use crate::purse::purse_at;
 use crate::purse::with_purse_at;
-use answer::conditions::seat_number;
+use answer::conditions::guest_number;
 use answer::outcome::Outcome;
 use call::At;
 use call::refusal::asked;
 use state::round::is_dealt;
 use table::Table;
 
-// The number of a cash: what every call of a seat asks first, then the rest of its list. A purse is read only of a seat that there is.
+// The number of a cash: what every call of a guest asks first, then the rest of its list. A purse is read only of a guest that there is.
 fn cash_number(t: Table, at: At, n: u64) -> u8
     requires { ⌜ broken t ≡ false ⌝ }
-    ensures { λ r. ⌜ r ≡ first (cashConditions t (at .seat) n) ⌝ }
+    ensures { λ r. ⌜ r ≡ first (cashConditions t (at .seat) (at .position) n) ⌝ }
 {
     let o = t.options;
-    let early = seat_number(4, is_dealt(t), o.seats, at.seat);
+    let early = guest_number(4, is_dealt(t), o.seats, at);
     if early != 0 {
         return early;
     }
@@ -29,7 +30,7 @@ fn cash_number(t: Table, at: At, n: u64) -> u8
 
 pub fn cash(t: Table, at: At, n: u64) -> Outcome
     requires { ⌜ broken t ≡ false ⌝ }
-    ensures { λ r. ⌜ r ≡ outcome (cashConditions t (at .seat) n) (cashEffect t (at .seat) n) t ⌝ }
+    ensures { λ r. ⌜ r ≡ outcome (cashConditions t (at .seat) (at .position) n) (cashEffect t (at .seat) (at .position) n) t ⌝ }
 {
     let number = cash_number(t, at, n);
     if number != 0 {

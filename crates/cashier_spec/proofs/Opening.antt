@@ -1,10 +1,11 @@
 -- An accepted opening gives a table that is good: nothing is on it but the loaded order, and the history has no call yet.
-use mathlib.Core.Path.{_≡_, refl, sym, ap, subst}
+use mathlib.Core.Path.{_≡_, refl, sym, _∙_, ap, subst}
 use mathlib.Core.Bool.{true, true≢false}
 use mathlib.Core.List.{List, []}
-use Prim.Native.Nat.{ℕ, _≤_, _<_}
+use Prim.Native.Nat.{ℕ, zero, suc, _≤_, _<_}
 use native.Mathlib.Decide.{decLe}
 use native.Mathlib.Omega.{arith}
+use lib.IntN.{pos}
 use lib.ListN.{length, getD, replicate, length-replicate, getD-replicate, List·getD-eq-default}
 use borrow.Author.Tests.{eq-eqb, not-false}
 use Rattle.lists.specs.Sum.{sumOf}
@@ -19,13 +20,19 @@ use Rattle.options.specs.Ranges.{inRange}
 use Rattle.options.proofs.Facts.{in-range-facts}
 use Rattle.rules.specs.declared.seat_hand.SeatHand.{SeatHand}
 use Rattle.rules.specs.Drew.{seatDrew}
-use Rattle.table.specs.Seat.{emptySeat, missingSeat, missingPlace, emptyPlace, laid, prizes}
+use Rattle.rules.specs.declared.seat_hand.SeatHands.{SeatHands}
+use Rattle.table.specs.declared.Money.{Money}
+use Rattle.table.specs.declared.Seat.{Seat}
+use Rattle.table.specs.Guest.{holding}
+use Rattle.table.specs.Seat.{emptySeat, missingSeat, missingPlace, emptyPlace, guestAt, purse, laid}
 use Rattle.table.specs.Shoe.{validOrder, burnsFirst}
 use Rattle.table.specs.Table.{seatAt, isDealt, up}
 use Rattle.table.specs.Progress.{anyDrew, anyDecided}
 use Rattle.table.specs.Shape.{Shaped, ShapedSeat}
-use Rattle.table.specs.Aids.Sound.{Sound, SoundSeat}
-use Rattle.agreement.specs.Aids.Agrees.{SeatAgrees, Agrees, Good}
+use Rattle.table.specs.Aids.Sound.{Sound, SoundSeat, NoBets}
+use Rattle.table.proofs.Guests.{guest-hands, guest-beyond, guest-missing}
+use Rattle.table.proofs.Facts.{no-money, nothing-laid, unstaked-prizes}
+use Rattle.agreement.specs.Aids.Agrees.{GuestAgrees, SeatAgrees, Agrees, Good}
 use Rattle.cashier_spec.specs.Opening.{openConditions, openNumber, openTable, opened}
 use Rattle.cashier_spec.proofs.Order.{valid-length, loaded, loaded-length}
 
@@ -49,31 +56,71 @@ open-fits o order e =
 empty-at : (i : ℕ) → i < 9 → getD (replicate 9 emptySeat) i missingSeat ≡ emptySeat
 empty-at i h = getD-replicate 9 i emptySeat missingSeat h
 
+-- each guest of an empty seat holds nothing
+empty-guest : (p : ℕ) → p < 3 → guestAt emptySeat p .money ≡ holding 0
+unfolding guestAt
+empty-guest zero h = refl
+empty-guest (suc zero) h = refl
+empty-guest (suc (suc zero)) h = refl
+empty-guest (suc (suc (suc p))) h = absurd (omega arith)
+
+empty-bets : (p : ℕ) → (purse (guestAt emptySeat p) ≡ 0) × NoBets (guestAt emptySeat p)
+empty-bets p = go (decLe 3 p)
+  where
+    go : Dec (3 ≤ p) → (purse (guestAt emptySeat p) ≡ 0) × NoBets (guestAt emptySeat p)
+    go (yes h) = no-money (guestAt emptySeat p) (guest-beyond emptySeat p (omega arith))
+    go (no h) =
+        let new = empty-guest p (omega arith) in (
+          ap (λ (m : Money). m .purse) new,
+          record { no-stake = ap (λ (m : Money). m .stake) new; no-insurance = ap (λ (m : Money). m .insurance) new; no-sides = λ k l. ap (λ (m : Money). getD (m .sides) k 0) new ∙ getD-replicate {A = ℕ} 4 k 0 0 l },
+        )
+
 empty-shaped : ShapedSeat emptySeat
-empty-shaped = record { four-places = refl; four-sides = refl; three-first = refl; twenty-cards = λ p h. ap (λ (x : SeatHand). length (x .hand .cards)) (getD-replicate 4 p emptyPlace missingPlace h) }
+empty-shaped =
+    record {
+      four-places = refl;
+      two-others = refl;
+      four-sides = λ p h. ap (λ (m : Money). length (m .sides)) (empty-guest p h);
+      three-first = refl;
+      twenty-cards = λ p h. ap (λ (x : SeatHand). length (x .hand .cards)) (getD-replicate 4 p emptyPlace missingPlace h);
+    }
 
 -- a seat that holds nothing
 module _ (o : Options) (order : List ℕ) (i : ℕ) where
   empty-sound : SoundSeat o (isDealt (openTable o order)) (up (openTable o order)) i emptySeat
-  unfolding prizes laid sumOf
   empty-sound =
       record {
-        beyond = λ h. record { no-purse = refl; no-stake = refl; no-insurance = refl; no-sides = λ k l. getD-replicate {A = ℕ} 4 k 0 0 l; no-hands = refl };
-        stake-fits = λ h. absurd (omega arith);
-        insured = λ h. absurd (omega arith);
-        sides-fit = λ k l some. absurd (omega (arith, getD-replicate {A = ℕ} 4 k 0 0 l));
+        guests = λ p h.
+            let (empty, none) = empty-bets p in
+            record {
+              beyond = λ far. record { no-purse = empty; no-bets = none; no-hands = ap (λ (x : SeatHands). x .many) (guest-hands emptySeat p) };
+              stake-fits = λ some. absurd (omega (arith, none .no-stake));
+              insured = λ some. absurd (omega (arith, none .no-insurance));
+              sides-fit = λ k l some. absurd (omega (arith, none .no-sides k l));
+              prizes-back = omega (arith, unstaked-prizes o (guestAt emptySeat p) (none .no-stake));
+            };
+        seated-first = λ p h none. empty-bets p .1 .no-stake;
         waiting = λ h dealt. refl;
         playing = λ h. absurd (omega arith);
-        prizes-back = omega arith;
+      }
+
+  -- which the history has not either
+  guest-agrees : (p : ℕ) (s : Seat) → (purse s ≡ 0) × NoBets s → GuestAgrees o order [] i p s
+  guest-agrees p s (empty, none) =
+      record {
+        stake-is = none .no-stake;
+        insurance-is = none .no-insurance;
+        sides-are = none .no-sides;
+        laid-is = nothing-laid s none;
+        prizes-are = unstaked-prizes o s (none .no-stake);
+        purse-is = ap pos empty;
       }
 
   empty-agrees : SeatAgrees o order [] i emptySeat
-  unfolding prizes laid sumOf
-  empty-agrees = record { stake-is = refl; insurance-is = refl; sides-are = λ k l. getD-replicate {A = ℕ} 4 k 0 0 l; hands-are = refl; first-is = λ some. absurd (omega arith); laid-is = refl; prizes-are = refl; purse-is = refl }
+  empty-agrees = record { hands-are = refl; first-is = λ some. absurd (omega arith); guests = λ p. guest-agrees p (guestAt emptySeat p) (empty-bets p) }
 
   none-agrees : SeatAgrees o order [] i missingSeat
-  unfolding prizes laid sumOf
-  none-agrees = record { stake-is = refl; insurance-is = refl; sides-are = λ k l. refl; hands-are = refl; first-is = λ some. absurd (omega arith); laid-is = refl; prizes-are = refl; purse-is = refl }
+  none-agrees = record { hands-are = refl; first-is = λ some. absurd (omega arith); guests = λ p. guest-agrees p (guestAt missingSeat p) (no-money (guestAt missingSeat p) (guest-missing p)) }
 
   seat-agrees : SeatAgrees o order [] i (seatAt (openTable o order) i)
   seat-agrees = go (decLe 9 i)
@@ -94,7 +141,7 @@ module _ (o : Options) (order : List ℕ) (a : OpeningAccepted o order) where
       }
 
   open-sound : Sound (openTable o order)
-  unfolding sumOf flat laid
+  unfolding sumOf flat laid guestAt
   open-sound =
       record {
         options = a .in-range;
@@ -115,7 +162,7 @@ module _ (o : Options) (order : List ℕ) (a : OpeningAccepted o order) where
       }
 
   open-agrees : Agrees order [] (openTable o order)
-  unfolding sumOf laid anyDrew anyDecided seatDrew anyOf burnsFirst
+  unfolding sumOf laid anyDrew anyDecided seatDrew anyOf burnsFirst guestAt
   open-agrees =
       record {
         cards = record { order = loaded (o .decks) order (a .valid) 0; taken = refl; fresh = cond-same (isMachine o) true; bank = refl };

@@ -12,9 +12,8 @@ use Rattle.table.specs.Shape.{Shaped}
 use Rattle.table.specs.Aids.Sound.{Sound}
 use Rattle.history.specs.Entry.{Entry, isFill, isCredit, isBuy, isCash, isLoad, amountOf}
 use Rattle.agreement.specs.Aids.Agrees.{Good}
-use Rattle.agreement.proofs.Groups.{InGroup, ofHouse, not-deal, not-decision, not-end}
+use Rattle.agreement.proofs.Groups.{InGroup, ofHouse, not-deal, not-decision, not-end, no-drawing}
 use Rattle.agreement.proofs.Quiet.{house-seat, house-cards}
-use Rattle.agreement.proofs.Events.{no-drawing}
 
 -- what such a call must give: `came` is money that comes onto the table by it, `went` money that leaves it
 pub record TrayMoves (t : Table) (tray came went : ℕ) : Type 0 where

@@ -13,6 +13,7 @@ use Rattle.payment.specs.declared.bank.Score.{Score}
 use Rattle.payment.specs.Bank.{scoreOf}
 use Rattle.table.specs.declared.Shoe.{Shoe}
 use Rattle.table.specs.declared.Table.{Table}
+use Rattle.table.specs.Seat.{overGuests}
 use Rattle.table.specs.Shoe.{withDrawn, discardDrawn}
 use Rattle.table.specs.Table.{makeTable}
 use Rattle.table.specs.Aids.WithSeats.{withSeats}
@@ -23,7 +24,7 @@ use Rattle.answer.proofs.scores.Laws.{one-score}
 use Rattle.answer.specs.Reply.{makeReplyView, makeReply, givenBy, givenOf}
 use Rattle.close_spec.specs.BankDraw.{bankAtClose, closeTakes}
 use Rattle.close_spec.specs.PayLines.{allLines}
-use Rattle.close_spec.specs.Close.{closeScore, seatBack, paidSeat, closeEffect, closeShown}
+use Rattle.close_spec.specs.Close.{closeScore, guestBack, paidSeat, closeEffect, closeShown}
 use Rattle.close.specs.Aids.LinesAt.{LinesAt}
 
 -- the bank's score is that of its cards at close
@@ -34,7 +35,7 @@ pub close-is : (t u : Table) (score : Score) (laid back : ℕ) (none : Hand) (sh
     → score ≡ closeScore t
     → u ≡ withSeats t (map (paidSeat (t .options) score) (t .seats))
     → laid ≡ layout t
-    → back ≡ sumOf (seatBack (t .options) score) (t .seats)
+    → back ≡ sumOf (overGuests (guestBack (t .options) score)) (t .seats)
     → none ≡ emptyHand
     → shoe ≡ discardDrawn (withDrawn (t .shoe) (closeTakes t))
     → makeTable (u .options) (t .tray + laid - back) (u .seats) none shoe ≡ closeEffect t

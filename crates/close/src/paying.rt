@@ -1,6 +1,6 @@
-// What goes back at close (document 01, "Payment"): to each seat for its hands, its insurance and its side stakes, and to all seats. Every table is taken.
+// What goes back at close (document 01, "Payment"): to each guest for the hands, the insurance and the side stakes, and to all. Every table is taken.
 ghost use mathlib.Core.Path.{_≡_};
-ghost use Prim.Native.Nat.{_≤_};
+ghost use Prim.Native.Nat.{_≤_, _<_};
 ghost use mathlib.Core.Bool.{cond};
 ghost use lib.ListN.{take};
 ghost use Rattle.lists.specs.Sum.{sumOf};
@@ -8,7 +8,8 @@ ghost use Rattle.payment.specs.Pays.{sidePays, backOf};
 ghost use Rattle.rules.specs.SeatHand.{handsOf};
 ghost use Rattle.payment.specs.HandPay.{handPay};
 ghost use Rattle.payment.specs.SidePay.{sidePay};
-ghost use Rattle.close_spec.specs.Close.{seatBack};
+ghost use Rattle.table.specs.Seat.{guestAt, overGuests};
+ghost use Rattle.close_spec.specs.Close.{guestBack};
 use options::Options;
 use payment::bank::Score;
 use payment::hand_pay::hand_pay;
@@ -16,6 +17,9 @@ use payment::insurance::insurance_pay;
 use payment::side_pay::side_pay;
 use rules::seat_hand::SeatHands;
 use rules::seat_hand::used;
+use state::seat::guest_at;
+use state::seat::guest_money;
+use state::seat::no_money;
 use table::Seat;
 use table::Table;
 
@@ -55,9 +59,9 @@ fn sides_back(sides: [u32; 4], first: [u8; 3], split: bool) -> u64
     pair + sevens + more + less
 }
 
-// What goes back to the seat: at most 16 stakes, three times its insurance, and what goes back for its side stakes.
-pub(crate) fn seat_back(o: Options, bank: Score, s: Seat) -> u64
-    ensures same { λ r. ⌜ r ≡ seatBack o bank s ⌝ }
+// What goes back to a guest: at most 16 stakes, three times the insurance, and what goes back for the side stakes.
+pub(crate) fn guest_back(o: Options, bank: Score, s: Seat) -> u64
+    ensures same { λ r. ⌜ r ≡ guestBack o bank s ⌝ }
     ensures small { λ r. ⌜ r ≤ 140819092733952 ⌝ }
 {
     let money = s.money;
@@ -69,9 +73,29 @@ pub(crate) fn seat_back(o: Options, bank: Score, s: Seat) -> u64
     hands_back(o, bank, money.stake, hands) + insured.back + beside
 }
 
-// What goes back to all seats.
+// The same for a guest beside the seated one; one who has nothing is passed over.
+fn other_back(o: Options, bank: Score, s: Seat, p: u8) -> u64
+    requires { ⌜ p < 3 ⌝ }
+    ensures same { λ r. ⌜ r ≡ guestBack o bank (guestAt s p) ⌝ }
+    ensures small { λ r. ⌜ r ≤ 140819092733952 ⌝ }
+{
+    if no_money(guest_money(s, p)) {
+        return 0;
+    }
+    guest_back(o, bank, guest_at(s, p))
+}
+
+// What goes back to the guests of a seat.
+fn seat_back(o: Options, bank: Score, s: Seat) -> u64
+    ensures same { λ r. ⌜ r ≡ overGuests (guestBack o bank) s ⌝ }
+    ensures small { λ r. ⌜ r ≤ 422457278201856 ⌝ }
+{
+    guest_back(o, bank, s) + other_back(o, bank, s, 1) + other_back(o, bank, s, 2)
+}
+
+// What goes back to all.
 pub(crate) fn seats_back(t: Table, bank: Score) -> u64
-    ensures { λ r. ⌜ r ≡ sumOf (seatBack (t .options) bank) (t .seats) ⌝ }
+    ensures { λ r. ⌜ r ≡ sumOf (overGuests (guestBack (t .options) bank)) (t .seats) ⌝ }
 {
     let o = t.options;
     let mut all: u64 = 0;

@@ -1,4 +1,4 @@
-// void: a misdeal. Each seat gets back what it laid in this round and returns its prizes, which the tray gets; drawn cards become discards
+// void: a misdeal. Each guest gets back what was laid in this round and returns the prizes, which the tray gets; drawn cards become discards
 // (document 01, "The seventeen calls").
 ghost use mathlib.Core.Path.{_≡_};
 ghost use mathlib.Core.Bool.{false};
@@ -16,7 +16,7 @@ use money::sums::table_sums;
 use shoe::discard_drawn;
 use table::Table;
 
-// The seats with what they laid, the prizes in the tray, and all drawn cards as discards.
+// The guests with what they laid, the prizes in the tray, and all drawn cards as discards.
 fn voided(t: Table) -> Table
     requires { ⌜ Sound t ⌝ }
     ensures { λ r. ⌜ r ≡ voidEffect t ⌝ }

@@ -13,11 +13,11 @@ use Rattle.table.specs.declared.Seat.{Seat}
 use Rattle.close_spec.specs.PayLines.{lineOf, seatLines, allLines}
 
 module _ (o : Options) (bank : Score) where
-  pub hand-lines-next : (S seat k : ℕ) (hs : List Played) (d : Played) → k < length hs
-      → map (lineOf seat) (handPays o bank S 0 (take (k + 1) hs)) ≡ map (lineOf seat) (handPays o bank S 0 (take k hs)) ++ (lineOf seat (due handKind k (handPay o bank S (getD hs k d))) ∷ [])
+  pub hand-lines-next : (S seat position k : ℕ) (hs : List Played) (d : Played) → k < length hs
+      → map (lineOf seat position) (handPays o bank S 0 (take (k + 1) hs)) ≡ map (lineOf seat position) (handPays o bank S 0 (take k hs)) ++ (lineOf seat position (due handKind k (handPay o bank S (getD hs k d))) ∷ [])
   unfolding handPays
-  hand-lines-next S seat k hs d h =
-      numbered-next (λ p xs. map (lineOf seat) (handPays o bank S p xs)) (λ p x. lineOf seat (due handKind p (handPay o bank S x)) ∷ []) (λ p. refl) (λ p x xs. refl) k hs d h
+  hand-lines-next S seat position k hs d h =
+      numbered-next (λ p xs. map (lineOf seat position) (handPays o bank S p xs)) (λ p x. lineOf seat position (due handKind p (handPay o bank S x)) ∷ []) (λ p. refl) (λ p x xs. refl) k hs d h
 
   pub seat-lines-next : (k : ℕ) (ss : List Seat) (d : Seat) → k < length ss → allLines o bank 0 (take (k + 1) ss) ≡ allLines o bank 0 (take k ss) ++ seatLines o bank k (getD ss k d)
   unfolding allLines

@@ -1,13 +1,11 @@
--- An accepted void keeps the table good: each seat has back what it laid, less its prizes, which the tray has back, and the cards are discards. What
+-- An accepted void keeps the table good: each guest has back what was laid, less the prizes, which the tray has back, and the cards are discards. What
 -- it finds is one record, a fact for each condition.
 use mathlib.Core.Path.{_≡_, refl}
 use mathlib.Core.Bool.{true}
 use mathlib.Core.List.{List, _∷_}
 use Prim.Native.Nat.{ℕ, _+_, _≤_}
-use native.Mathlib.Decide.{decLe}
 use native.Mathlib.Omega.{arith}
 use lib.IntN.{pos}
-use lib.ListN.{List·getD-eq-default}
 use borrow.Author.Tests.{not-false}
 use Rattle.lists.specs.Sum.{sumOf}
 use Rattle.lists.specs.Tests.{allOf}
@@ -17,14 +15,14 @@ use Rattle.call.specs.declared.Call.the-variants.{Void}
 use Rattle.call.specs.Refusal.{first}
 use Rattle.call.proofs.Refusals.{none-hold}
 use Rattle.options.specs.declared.Options.{Options}
-use Rattle.table.specs.declared.Seat.{Seat}
 use Rattle.table.specs.declared.Table.{Table}
-use Rattle.table.specs.Seat.{missingSeat, purse, laid, prizes}
-use Rattle.table.specs.Table.{seatAt, someStaked}
+use Rattle.table.specs.Seat.{missingSeat, overGuests, purse, laid, prizes}
+use Rattle.table.specs.Table.{guestOf, someStaked}
 use Rattle.table.specs.Money.{allMoney}
 use Rattle.table.specs.Shape.{Shaped}
-use Rattle.table.specs.Aids.Sound.{Sound, HoldsNothing}
-use Rattle.table.proofs.Facts.{unbroken, laid-stake, no-prizes}
+use Rattle.table.specs.Aids.Sound.{Sound}
+use Rattle.table.proofs.AnyGuest.{any-guest}
+use Rattle.table.proofs.Facts.{unbroken, nothing-laid, unstaked-prizes}
 use Rattle.table.proofs.RoundEnd.{RoundEnd, end-shaped, end-sound}
 use Rattle.history.specs.Entry.{Entry}
 use Rattle.history.specs.Aids.MakeEntry.{entry}
@@ -32,7 +30,7 @@ use Rattle.history.specs.Cards.{callTakes}
 use Rattle.history.specs.Money.{laidIn, prizesIn, purseOf}
 use Rattle.agreement.specs.Aids.Agrees.{Good}
 use Rattle.agreement.proofs.EndOfRound.{Ends, EndCall, purse-end, end-call}
-use Rattle.close_spec.specs.Void.{voidConditions, voidSeat, voidEffect}
+use Rattle.close_spec.specs.Void.{voidConditions, voidPurse, voidEffect}
 
 -- what an accepted void finds: a fact for each condition of its list
 pub record VoidAccepted (t : Table) : Type 0 where
@@ -45,42 +43,36 @@ void-accepted t e =
     let (whole, (some, _)) = none-hold (voidConditions t) refl e in
     record { sound = unbroken t whole; some = not-false (someStaked t) some }
 
--- a seat's purse after a void
-abbrev purseBack : Options → Seat → ℕ
-purseBack o s = purse (voidSeat o s)
+-- the prizes of a guest of any number and position are within the purse and what was laid
+prizes-within : (t : Table) → Shaped t → Sound t → (i p : ℕ) → prizes (t .options) (guestOf t i p) ≤ purse (guestOf t i p) + laid (guestOf t i p)
+prizes-within t shaped sound i p =
+    any-guest t shaped (λ s. prizes (t .options) s ≤ purse s + laid s) i p (λ h l. sound .seats i h .guests p l .prizes-back)
+    (λ s none. omega (arith, unstaked-prizes (t .options) s (none .no-stake)))
 
-nothing-back : (o : Options) (s : Seat) → HoldsNothing s → purseBack o s ≡ 0
-nothing-back o s n =
-    omega (arith, laid-stake s (n .no-hands), n .no-sides 0 (omega arith), n .no-sides 1 (omega arith), n .no-sides 2 (omega arith), n .no-sides 3 (omega arith))
-
--- the prizes of the seat of any number are within its purse and what it laid
-prizes-within : (t : Table) → Shaped t → Sound t → (i : ℕ) → prizes (t .options) (seatAt t i) ≤ purse (seatAt t i) + laid (seatAt t i)
-prizes-within t shaped sound i = go (decLe 9 i)
-  where
-    go : Dec (9 ≤ i) → prizes (t .options) (seatAt t i) ≤ purse (seatAt t i) + laid (seatAt t i)
-    go (yes h) = rw (List·getD-eq-default (t .seats) missingSeat {n = i} (omega arith)) (omega (arith, no-prizes (t .options) missingSeat refl))
-    go (no h) = sound .seats i (omega arith) .prizes-back
-
-void-paid : (t : Table) → Shaped t → Sound t → voidEffect t .tray + sumOf (purseBack (t .options)) (t .seats) ≡ allMoney t
+void-paid : (t : Table) → Shaped t → Sound t → voidEffect t .tray + sumOf (overGuests (voidPurse (t .options))) (t .seats) ≡ allMoney t
 unfolding voidEffect
 void-paid t shaped sound =
-    let o = t .options in
+    let within = prizes-within t shaped sound in
     omega (
       arith,
-      sum-plus (purseBack o) (prizes o) (t .seats),
-      sum-plus purse laid (t .seats),
-      sum-at-same (λ s. purseBack o s + prizes o s) (λ s. purse s + laid s) (t .seats) missingSeat (λ i h. omega (arith, prizes-within t shaped sound i)),
+      sum-plus (overGuests (voidPurse o)) (overGuests (prizes o)) (t .seats),
+      sum-plus (overGuests purse) (overGuests laid) (t .seats),
+      sum-at-same (λ s. overGuests (voidPurse o) s + overGuests (prizes o) s) (λ s. overGuests purse s + overGuests laid s) (t .seats) missingSeat
+          (λ i h. omega (arith, within i 0, within i 1, within i 2)),
     )
+  where
+    o : Options
+    o = t .options
 
 void-ends : (order : List ℕ) → Ends (entry Void order)
 void-ends order = record { among = refl; is-end = refl }
 
-round-end : (t : Table) → Shaped t → Sound t → RoundEnd t (voidEffect t .tray) (purseBack (t .options)) (voidEffect t .shoe) 0
+round-end : (t : Table) → Shaped t → Sound t → RoundEnd t (voidEffect t .tray) (voidPurse (t .options)) (voidEffect t .shoe) 0
 unfolding voidEffect
 round-end t shaped sound =
     record {
       paid = void-paid t shaped sound;
-      nothing-stays = nothing-back (t .options);
+      nothing-stays = λ s empty none. omega (arith, nothing-laid s none);
       same-order = refl;
       more-drawn = omega arith;
       same-begun = refl;
@@ -94,26 +86,26 @@ pub void-kept : (t : Table) → Shaped t → Sound t → Shaped (voidEffect t) �
 unfolding voidEffect
 void-kept t shaped sound =
     let end = round-end t shaped sound in (
-      end-shaped t (voidEffect t .tray) (purseBack (t .options)) (voidEffect t .shoe) 0 shaped sound end,
-      end-sound t (voidEffect t .tray) (purseBack (t .options)) (voidEffect t .shoe) 0 shaped sound end,
+      end-shaped t (voidEffect t .tray) (voidPurse (t .options)) (voidEffect t .shoe) 0 shaped sound end,
+      end-sound t (voidEffect t .tray) (voidPurse (t .options)) (voidEffect t .shoe) 0 shaped sound end,
     )
 
 module _ (opening : List ℕ) (es : List Entry) (t : Table) (order : List ℕ) (g : Good opening es t) where
-  purse-back : (i : ℕ) → pos (purseBack (t .options) (seatAt t i)) ≡ purseOf (t .options) opening (entry Void order ∷ es) i
-  purse-back i =
-      let a = g .agrees .seats i in
-      purse-end (t .options) opening es i (entry Void order) (void-ends order) (purse (seatAt t i)) (purseBack (t .options) (seatAt t i))
-      (laidIn es i + 0) (0 + prizesIn (t .options) opening es i)
-      (diff-sub (diff-pos (laidIn es i)) (diff-pos (prizesIn (t .options) opening es i)))
-      (a .purse-is) (omega (arith, a .laid-is, a .prizes-are, prizes-within t (g .shaped) (g .sound) i))
+  purse-back : (i p : ℕ) → pos (voidPurse (t .options) (guestOf t i p)) ≡ purseOf (t .options) opening (entry Void order ∷ es) i p
+  purse-back i p =
+      let a = g .agrees .seats i .guests p in
+      purse-end (t .options) opening es i (entry Void order) (void-ends order) p (purse (guestOf t i p)) (voidPurse (t .options) (guestOf t i p))
+      (laidIn es i p + 0) (0 + prizesIn (t .options) opening es i p)
+      (diff-sub (diff-pos (laidIn es i p)) (diff-pos (prizesIn (t .options) opening es i p)))
+      (a .purse-is) (omega (arith, a .laid-is, a .prizes-are, prizes-within t (g .shaped) (g .sound) i p))
 
   -- the history's call
-  void-call : EndCall opening es t (entry Void order) (voidEffect t .tray) (purseBack (t .options)) (voidEffect t .shoe) 0
+  void-call : EndCall opening es t (entry Void order) (voidEffect t .tray) (voidPurse (t .options)) (voidEffect t .shoe) 0
   unfolding callTakes voidEffect
   void-call = record { ends = void-ends order; takes = refl; purses = purse-back }
 
 pub void-good : (opening : List ℕ) (es : List Entry) (t : Table) (order : List ℕ) → Good opening es t → first (voidConditions t) ≡ 0 → Good opening (entry Void order ∷ es) (voidEffect t)
 unfolding voidEffect
 void-good opening es t order g accepted =
-    end-call opening es t (entry Void order) (voidEffect t .tray) (purseBack (t .options)) (voidEffect t .shoe) 0 g
+    end-call opening es t (entry Void order) (voidEffect t .tray) (voidPurse (t .options)) (voidEffect t .shoe) 0 g
     (round-end t (g .shaped) (g .sound)) (void-call opening es t order g)

@@ -14,14 +14,14 @@ use Rattle.rules.specs.Turn.{someWaits}
 use Rattle.payment.specs.Pays.{backOf}
 use Rattle.table.specs.declared.Seat.{Seat}
 use Rattle.table.specs.declared.Table.{Table}
-use Rattle.table.specs.Seat.{clearedSeat, purse}
+use Rattle.table.specs.Seat.{clearedSeat, guestAt, overGuests, purse}
 use Rattle.table.specs.Shoe.{withDrawn, discardDrawn}
 use Rattle.table.specs.Table.{makeTable, seatsHands, up}
 use Rattle.table.specs.Money.{layout}
 use Rattle.table.specs.Broken.{broken}
 use Rattle.answer.specs.Conditions.{inRound}
 use Rattle.close_spec.specs.BankDraw.{bankAtClose, closeTakes}
-use Rattle.close_spec.specs.PayLines.{seatPays, allLines}
+use Rattle.close_spec.specs.PayLines.{guestPays, allLines}
 
 -- 7 a hand waits; 18 the shoe ends before the bank's total reaches 17.
 unfoldable pub closeConditions : Table → List Condition
@@ -32,20 +32,24 @@ closeConditions t =
     ∷ (18, mustDraw (bankAtClose t))
     ∷ []
 
--- The bank's score, and what goes back to a seat.
+-- The bank's score, and what goes back to a guest.
 abbrev pub closeScore : Table → Score
 closeScore t = scoreOf (bankAtClose t)
 
-unfoldable pub seatBack : Options → Score → Seat → ℕ
-seatBack o bank s = backOf (seatPays o bank s)
+unfoldable pub guestBack : Options → Score → Seat → ℕ
+guestBack o bank s = backOf (guestPays o bank s)
+
+-- A guest's purse then, and the seat of such guests.
+abbrev pub paidPurse : Options → Score → Seat → ℕ
+paidPurse o bank s = purse s + guestBack o bank s
 
 abbrev pub paidSeat : Options → Score → Seat → Seat
-paidSeat o bank s = clearedSeat (purse s + seatBack o bank s)
+paidSeat o bank s = clearedSeat (λ p. paidPurse o bank (guestAt s p))
 
 -- What lay on the layout goes to the tray, what goes back comes from it. All drawn cards are discards.
 unfoldable pub closeEffect : Table → Table
 closeEffect t =
-    makeTable (t .options) (t .tray + layout t - sumOf (seatBack (t .options) (closeScore t)) (t .seats))
+    makeTable (t .options) (t .tray + layout t - sumOf (overGuests (guestBack (t .options) (closeScore t))) (t .seats))
     (map (paidSeat (t .options) (closeScore t)) (t .seats))
     emptyHand
     (discardDrawn (withDrawn (t .shoe) (closeTakes t)))

@@ -1,12 +1,11 @@
 -- An accepted deal keeps the table good: each staked seat has the cards that the history places behind the burn, by its rank among the staked seats.
 use mathlib.Core.Path.{_≡_, refl, sym, _∙_, ap, ap₂}
-use mathlib.Core.Bool.{Bool, true, false, cond, and-false}
+use mathlib.Core.Bool.{Bool, true, false, cond}
 use mathlib.Core.List.{List, [], _∷_}
 use Prim.Native.Nat.{ℕ, _+_, _-_, _*_, _≤_, _<_}
 use native.Mathlib.Decide.{decLe}
 use native.Mathlib.Omega.{arith}
 use lib.Dec.{ltb, leb, eqb}
-use lib.IntN.{pos}
 use lib.ListN.{length, getD}
 use lib.Seq.{getD-take, take-all}
 use borrow.Author.Tests.{le-leb, lt-leb, eq-eqb, ne-eqb}
@@ -19,13 +18,13 @@ use Rattle.options.specs.Device.{isBox, isMachine, bankAtDeal}
 use Rattle.options.specs.Aids.Facts.{InRange}
 use Rattle.rules.specs.SeatHand.{Played, dealt, notEnded, hasTwoCards}
 use Rattle.rules.specs.Drew.{seatDrew}
-use Rattle.table.specs.declared.Money.{Money}
 use Rattle.table.specs.declared.Shoe.{Shoe}
 use Rattle.table.specs.declared.Table.{Table}
-use Rattle.table.specs.Seat.{missingSeat, purse, stake, insurance, isStaked, hands, firstCards}
+use Rattle.table.specs.Seat.{missingSeat, guestAt, stake, isStaked, hands, firstCards}
 use Rattle.table.specs.Shoe.{burnsFirst}
-use Rattle.table.specs.Table.{seatAt, bankCards}
+use Rattle.table.specs.Table.{seatAt, guestOf, bankCards}
 use Rattle.table.specs.Progress.{anyDrew, anyDecided}
+use Rattle.table.proofs.Guests.{guest-seated, guest-money}
 use Rattle.table.proofs.Facts.{sound-options, no-hands, no-prizes}
 use Rattle.table.specs.Shape.{Shaped}
 use Rattle.table.specs.Aids.Sound.{Sound}
@@ -34,19 +33,17 @@ use Rattle.history.specs.Aids.MakeEntry.{entry}
 use Rattle.history.specs.Rounds.{stakeIn, stakedBelow}
 use Rattle.history.specs.Cards.{Cards, dealBurns, callTakes, bankAfter, cardsAfter, cardsOfHistory}
 use Rattle.history.specs.Hands.{played, missingHand, dealtHand, handsAfter, handsIn, firstAfter, firstIn}
-use Rattle.history.specs.Money.{lays, wins, prizeOf, purseOf}
-use Rattle.agreement.specs.Aids.Agrees.{SeatAgrees, CardsAgree, Agrees, Good}
-use Rattle.agreement.proofs.Purse.{purse-moves}
-use Rattle.agreement.proofs.Quiet.{sides-stay}
+use Rattle.agreement.specs.Aids.Agrees.{GuestAgrees, SeatAgrees, CardsAgree, Agrees, Good}
+use Rattle.agreement.proofs.Groups.{ofDeal}
+use Rattle.agreement.proofs.Quiet.{guest-alike, untouched-guest, no-money}
 use Rattle.agreement.proofs.Events.{seatDecided, nobody-decided}
 use Rattle.deal_spec.specs.Burn.{firstBurn, laterBurn, burnAtDeal}
 use Rattle.deal_spec.specs.Deal.{stakedSeats, burnt, dealTakes, dealtSeats, upCard, hiddenCard, dealConditions, dealEffect}
 use Rattle.lists.proofs.Parts.{sum-first, sum-before}
-use Rattle.lists.proofs.Tests.{cond-same}
 use Rattle.deal_spec.proofs.DealAccepted.{DealAccepted, deal-accepted}
 use Rattle.deal_spec.proofs.DealtBank.{some-at-deal, bank-cards}
 use Rattle.deal_spec.proofs.DealtSeat.{dealt-hands, dealt-first}
-use Rattle.deal_spec.proofs.DealSound.{firstPlace, secondPlace, stakedBefore, firstOf, secondOf, dealtAt, past, no-hand-yet, staked-nine, dealt-either, laid-after, prizes-after, now-dealt, deal-money, deal-shaped, deal-sound}
+use Rattle.deal_spec.proofs.DealSound.{firstPlace, secondPlace, stakedBefore, firstOf, secondOf, dealtAt, past, no-hand-yet, no-hands-yet, staked-nine, dealt-either, laid-after, prizes-after, now-dealt, deal-money, deal-shaped, deal-sound}
 
 -- the burn, as the history says it
 same-burn : (o : Options) (sh : Shoe) (c : Cards) → InRange o → burnsFirst o sh ≡ c .fresh → burnAtDeal o sh ≡ dealBurns o c
@@ -71,18 +68,22 @@ module _ (opening : List ℕ) (es : List Entry) (t : Table) (order : List ℕ) (
   abbrev one : ℕ → ℕ
   one S = cond (ltb 0 S) 1 0
 
+  -- the stake of the seated guest
+  stake-is : (i : ℕ) → stake (seatAt t i) ≡ stakeIn es i 0
+  stake-is i = ap stake (sym (guest-seated (seatAt t i))) ∙ g .agrees .seats i .guests 0 .stake-is
+
   -- how many seats below a number have staked
   before-is : (i : ℕ) → i ≤ 9 → stakedBefore t i ≡ stakedBelow es i
   before-is i h =
       sum-first (λ s. one (stake s)) (t .seats) i missingSeat (omega (arith, g .shaped .nine-seats))
-      ∙ sum-below-same (λ k. one (stake (seatAt t k))) (λ k. one (stakeIn es k)) i (λ k l. ap one (g .agrees .seats k .stake-is))
+      ∙ sum-below-same (λ k. one (stake (seatAt t k))) (λ k. one (stakeIn es k 0)) i (λ k l. ap one (stake-is k))
 
-  no-stake : (i : ℕ) → t .options .seats ≤ i → stakeIn es i ≡ 0
-  no-stake i h = sym (g .agrees .seats i .stake-is) ∙ go (decLe 9 i)
+  no-stake : (i : ℕ) → t .options .seats ≤ i → stakeIn es i 0 ≡ 0
+  no-stake i h = sym (stake-is i) ∙ go (decLe 9 i)
     where
       go : Dec (9 ≤ i) → stake (seatAt t i) ≡ 0
       go (yes l) = ap stake (past t (g .shaped) ok i l)
-      go (no l) = g .sound .seats i (omega arith) .beyond h .no-stake
+      go (no l) = ap stake (sym (guest-seated (seatAt t i))) ∙ g .sound .seats i (omega arith) .guests 0 (omega arith) .beyond h .no-bets .no-stake
 
   staked-is : stakedSeats (t .seats) ≡ stakedBelow es (t .options .seats)
   staked-is =
@@ -91,7 +92,7 @@ module _ (opening : List ℕ) (es : List Entry) (t : Table) (order : List ℕ) (
       ap stakedSeats (sym (take-all 9 (t .seats) (omega (arith, g .shaped .nine-seats))))
       ∙ before-is 9 (omega arith)
       ∙ ap (stakedBelow es) (sym nine)
-      ∙ sum-below-more (λ k. one (stakeIn es k)) (t .options .seats) (9 - t .options .seats) (λ i h. ap one (no-stake i h))
+      ∙ sum-below-more (λ k. one (stakeIn es k 0)) (t .options .seats) (9 - t .options .seats) (λ i h. ap one (no-stake i h))
 
   burn-is : burnt t ≡ dealBurns (t .options) c
   burn-is = same-burn (t .options) (t .shoe) c (sound-options t (g .sound)) (g .agrees .cards .fresh)
@@ -156,7 +157,7 @@ module _ (opening : List ℕ) (es : List Entry) (t : Table) (order : List ℕ) (
       let below = before-is i (omega arith) in
       let counted : one (stake (seatAt t i)) ≡ 1 = rw staked in
       let rank : stakedBefore t i < stakedSeats (t .seats) = omega (arith, sum-before (λ s. one (stake s)) (t .seats) i missingSeat (omega (arith, g .shaped .nine-seats))) in
-      let there : ltb 0 (stakeIn es i) ≡ true = ap (ltb 0) (sym (g .agrees .seats i .stake-is)) ∙ staked in
+      let there : ltb 0 (stakeIn es i 0) ≡ true = ap (ltb 0) (sym (stake-is i)) ∙ staked in
       let first-card = card-is (firstPlace t + stakedBefore t i) (c .taken + dealBurns (t .options) c + stakedBelow es i) (omega (arith, burn-is, g .agrees .cards .taken)) (omega arith) in
       let second-card =
       card-is (secondPlace t + stakedBefore t i) (c .taken + dealBurns (t .options) c + stakedBelow es (t .options .seats) + 1 + stakedBelow es i)
@@ -176,37 +177,29 @@ module _ (opening : List ℕ) (es : List Entry) (t : Table) (order : List ℕ) (
 
   no-hand-is : (i : ℕ) → isStaked (seatAt t i) ≡ false → hands (seatAt t i) ≡ handsIn (t .options) opening (e ∷ es) i
   unfolding handsAfter
-  no-hand-is i none = let there : ltb 0 (stakeIn es i) ≡ false = ap (ltb 0) (sym (g .agrees .seats i .stake-is)) ∙ none in rw there (no-hands (seatAt t i) (no-hand-yet t (g .shaped) ok i))
+  no-hand-is i none = let there : ltb 0 (stakeIn es i 0) ≡ false = ap (ltb 0) (sym (stake-is i)) ∙ none in rw there (no-hands (seatAt t i) (no-hand-yet t (g .shaped) ok i))
 
-  -- money moves at no seat
-  lays-none : (i S : ℕ) → lays i S e ≡ 0
-  unfolding lays
-  lays-none i S = cond-same (eqb 0 i) 0
-
-  prize-none : (i : ℕ) → prizeOf (t .options) opening es i e ≡ 0
-  unfolding wins
-  prize-none i = simp and-false
-
-  purse-is : (i : ℕ) → pos (purse (seatAt t i)) ≡ purseOf (t .options) opening (e ∷ es) i
-  purse-is i =
-      purse-moves (t .options) opening es i e refl (purse (seatAt t i)) (purse (seatAt t i)) (g .agrees .seats i .purse-is) (omega (arith, lays-none i (stakeIn es i), prize-none i))
+  -- no guest's money moves
+  guest-agrees : (i p : ℕ) → GuestAgrees (t .options) opening (e ∷ es) i p (guestOf t i p)
+  guest-agrees i p =
+      untouched-guest (t .options) opening es i p e (no-money (t .options) opening es i p e refl {g = ofDeal} refl refl refl refl) (guestOf t i p) (g .agrees .seats i .guests p)
 
   seat-agrees : (i : ℕ) → SeatAgrees (t .options) opening (e ∷ es) i (getD (dealtSeats t) i missingSeat)
   seat-agrees i =
-      let a = g .agrees .seats i in
+      let s = seatAt t i in
+      let x = getD (dealtSeats t) i missingSeat in
       let both =
-      dealt-either t (g .shaped) ok i (λ x. (x .money ≡ seatAt t i .money) × (hands x ≡ handsIn (t .options) opening (e ∷ es) i) × (0 < length (hands x) → firstCards x ≡ firstIn (t .options) opening (e ∷ es) i))
-      (λ staked. (refl, hand-is i staked, λ some. first-is i staked))
-      (λ none. (refl, no-hand-is i none, λ some. absurd (omega (arith, ap length (no-hands (seatAt t i) (no-hand-yet t (g .shaped) ok i)))))) in
+      dealt-either t (g .shaped) ok i
+      (λ x. (x .money ≡ s .money) × (x .others ≡ s .others) × (hands x ≡ handsIn (t .options) opening (e ∷ es) i) × (0 < length (hands x) → firstCards x ≡ firstIn (t .options) opening (e ∷ es) i))
+      (λ staked. (refl, refl, hand-is i staked, λ some. first-is i staked))
+      (λ none. (refl, refl, no-hand-is i none, λ some. absurd (omega (arith, ap length (no-hands s (no-hand-yet t (g .shaped) ok i)))))) in
       record {
-        stake-is = ap (λ (m : Money). m .stake) (both .0) ∙ a .stake-is;
-        insurance-is = ap (λ (m : Money). m .insurance) (both .0) ∙ a .insurance-is;
-        sides-are = λ k h. ap (λ (m : Money). getD (m .sides) k 0) (both .0) ∙ a .sides-are k h ∙ sym (sides-stay es i e refl refl k h);
-        hands-are = both .1;
-        first-is = both .2;
-        laid-is = omega (arith, laid-after t (g .shaped) ok i, a .laid-is, lays-none i (stakeIn es i));
-        prizes-are = omega (arith, prizes-after t (g .shaped) ok i, no-prizes (t .options) (seatAt t i) (no-hand-yet t (g .shaped) ok i), a .prizes-are, prize-none i);
-        purse-is = ap (λ (m : Money). pos (m .purse)) (both .0) ∙ purse-is i;
+        hands-are = both .2;
+        first-is = both .3;
+        guests = λ p.
+            guest-alike (t .options) opening (e ∷ es) i p (guestAt x p) (guestOf t i p) (guest-money x s (both .0) (both .1) p) (laid-after t (g .shaped) ok i p)
+            (prizes-after t (g .shaped) ok i p ∙ sym (no-prizes (t .options) (guestOf t i p) (no-hands-yet t (g .shaped) ok i p)))
+            (guest-agrees i p);
       }
 
   -- nobody had taken a decision, and nobody has: a hand that is dealt has two cards and has not ended
@@ -216,7 +209,7 @@ module _ (opening : List ℕ) (es : List Entry) (t : Table) (order : List ℕ) (
 
   fresh-hands : (i : ℕ) → seatDecided (handsIn (t .options) opening (e ∷ es) i) ≡ false
   unfolding handsAfter dealtHand seatDrew hasTwoCards anyOf
-  fresh-hands i = go (ltb 0 (stakeIn es i))
+  fresh-hands i = go (ltb 0 (stakeIn es i 0))
     where
       go : (b : Bool) → seatDecided (cond b (dealtHand (t .options) c (stakedBelow es i) (stakedBelow es (t .options .seats)) ∷ []) []) ≡ false
       go true = refl

@@ -6,7 +6,6 @@ use mathlib.Core.List.{List, [], _∷_, _++_}
 use Prim.Native.Nat.{ℕ, suc, _+_, _*_, _≤_, _<_}
 use native.Mathlib.Decide.{decLe}
 use native.Mathlib.Omega.{arith}
-use lib.Dec.{ltb}
 use lib.ListN.{length, take, drop, getD, length-take, length-drop, List·getD-eq-default}
 use lib.Seq.{take-add, length-sets}
 use borrow.Author.Tests.{ltb-true, ltb-false, lt-ltb}
@@ -17,16 +16,18 @@ use Rattle.lists.proofs.Sums.{sum-append, sum-flat, sum-none, sum-ones, sum-tak
 use Rattle.lists.proofs.Places.{same-taken, taken-same}
 use Rattle.options.specs.Device.{isBox, bankAtDeal}
 use Rattle.payment.specs.Cover.{cover as coverOf, sideCover}
-use Rattle.payment.specs.Bets.{allSides}
+use Rattle.rules.specs.declared.seat_hand.SeatHands.{SeatHands}
 use Rattle.table.specs.declared.Money.{Money}
 use Rattle.table.specs.declared.Seat.{Seat}
 use Rattle.table.specs.declared.Table.{Table}
-use Rattle.table.specs.Seat.{missingSeat, purse, stake, insurance, sides, isStaked, laid, prizes, seatCards}
-use Rattle.table.specs.Table.{seatAt, isDealt, up, handCards, bankCards, tableDrawn, tableShoe, tableDiscards}
+use Rattle.table.specs.Seat.{missingSeat, guestAt, overGuests, stake, insurance, isStaked, laid, prizes, seatCards}
+use Rattle.table.specs.Table.{seatAt, guestOf, isDealt, up, handCards, bankCards, tableDrawn, tableShoe, tableDiscards}
 use Rattle.table.specs.Money.{allMoney}
 use Rattle.table.specs.Faces.{outCards}
 use Rattle.table.specs.Shape.{Shaped, ShapedSeat}
 use Rattle.table.specs.Aids.Sound.{Sound, SoundSeat}
+use Rattle.table.proofs.Guests.{guest-hands, guest-money}
+use Rattle.table.proofs.AnyGuest.{any-guest}
 use Rattle.table.proofs.Facts.{sound-options, decks-416, room-discards, laid-stake, no-prizes, no-hands}
 use Rattle.table.proofs.SeatChange.{sum-out}
 use Rattle.deal_spec.specs.Pass.{pass, firstCard, secondCard}
@@ -35,8 +36,8 @@ use Rattle.lists.proofs.Parts.{any-map, part-of-take, sum-places, sum-more}
 use Rattle.lists.proofs.Stores.{sets-taken}
 use Rattle.deal_spec.proofs.DealAccepted.{DealAccepted}
 use Rattle.deal_spec.proofs.DealtBank.{some-at-deal, bank-cards, bank-count, bank-length}
-use Rattle.deal_spec.proofs.Pass.{pass-view, pass-length, pass-money, pass-either, pass-staked, pass-cards}
-use Rattle.deal_spec.proofs.DealtSeat.{dealtSeat, both-cards, first-cards, second-cards, dealt-laid, dealt-prizes, dealt-shaped, dealt-sound}
+use Rattle.deal_spec.proofs.Pass.{pass-view, pass-length, pass-sum, pass-either, pass-staked, pass-cards}
+use Rattle.deal_spec.proofs.DealtSeat.{dealtSeat, dealt-guest, both-cards, first-cards, second-cards, dealt-laid, dealt-prizes, dealt-shaped, dealt-sound}
 
 -- the places of the order: the first pass, the second, and how many staked seats are below a seat
 abbrev pub firstPlace : Table → ℕ
@@ -110,7 +111,7 @@ module _ (t : Table) (shaped : Shaped t) (ok : DealAccepted t) where
   pub past : (i : ℕ) → 9 ≤ i → seatAt t i ≡ missingSeat
   past i h = List·getD-eq-default (t .seats) missingSeat {n = i} (omega arith)
 
-  -- before the deal no seat has a hand or an insurance
+  -- before the deal no seat has a hand, and no guest an insurance
   pub no-hand-yet : (i : ℕ) → seatAt t i .hands .many ≡ 0
   no-hand-yet i = go (decLe 9 i) (decLe (seatAt t i .hands .many) 0)
     where
@@ -119,13 +120,15 @@ module _ (t : Table) (shaped : Shaped t) (ok : DealAccepted t) where
       go (no h) (yes none) = omega arith
       go (no h) (no some) = absurd (true≢false (sym (ok .sound .seats i (omega arith) .playing (omega arith) .in-round) ∙ ok .between))
 
-  pub no-insurance-yet : (i : ℕ) → insurance (seatAt t i) ≡ 0
-  no-insurance-yet i = go (decLe 9 i) (decLe (insurance (seatAt t i)) 0)
+  pub no-hands-yet : (i p : ℕ) → guestOf t i p .hands .many ≡ 0
+  no-hands-yet i p = ap (λ (x : SeatHands). x .many) (guest-hands (seatAt t i) p) ∙ no-hand-yet i
+
+  no-insurance-yet : (i p : ℕ) → insurance (guestOf t i p) ≡ 0
+  no-insurance-yet i p = any-guest t shaped (λ s. insurance s ≡ 0) i p (λ h l. go h l (decLe (insurance (guestOf t i p)) 0)) (λ s none. none .no-insurance)
     where
-      go : Dec (9 ≤ i) → Dec (insurance (seatAt t i) ≤ 0) → insurance (seatAt t i) ≡ 0
-      go (yes h) d = rw (past i h)
-      go (no h) (yes none) = omega arith
-      go (no h) (no some) = absurd (true≢false (sym (ok .sound .seats i (omega arith) .insured (omega arith) .in-round) ∙ ok .between))
+      go : i < 9 → p < 3 → Dec (insurance (guestOf t i p) ≤ 0) → insurance (guestOf t i p) ≡ 0
+      go h l (yes none) = omega arith
+      go h l (no some) = absurd (true≢false (sym (ok .sound .seats i h .guests p l .insured (omega arith) .in-round) ∙ ok .between))
 
   -- a staked seat is one of the nine
   pub staked-nine : (i : ℕ) → isStaked (seatAt t i) ≡ true → i < 9
@@ -137,6 +140,9 @@ module _ (t : Table) (shaped : Shaped t) (ok : DealAccepted t) where
 
   four : (i : ℕ) → isStaked (seatAt t i) ≡ true → length (seatAt t i .hands .places) ≡ 4
   four i staked = shaped .seats i (staked-nine i staked) .four-places
+
+  four-of : (i p : ℕ) → isStaked (seatAt t i) ≡ true → length (guestOf t i p .hands .places) ≡ 4
+  four-of i p staked = ap (λ (x : SeatHands). length (x .places)) (guest-hands (seatAt t i) p) ∙ four i staked
 
   -- the seats after the first pass
   abbrev once : List Seat
@@ -157,12 +163,17 @@ module _ (t : Table) (shaped : Shaped t) (ok : DealAccepted t) where
       pass-either secondCard (t .shoe .order) (secondPlace t) once i P
       (rw (once-staked i) (both .0)) (both .1)
 
-  -- each seat's money stays
-  over-money : (f : Money → ℕ) → sumOf (λ s. f (s .money)) (dealtSeats t) ≡ sumOf (λ s. f (s .money)) (t .seats)
+  -- each guest's money stays
+  over-money : (f : Money → ℕ) → sumOf (overGuests (λ s. f (s .money))) (dealtSeats t) ≡ sumOf (overGuests (λ s. f (s .money))) (t .seats)
   unfolding dealtSeats
   over-money f =
-      pass-money secondCard (t .shoe .order) (λ s card. refl) f (secondPlace t) once
-      ∙ pass-money firstCard (t .shoe .order) (λ s card. refl) f (firstPlace t) (t .seats)
+      pass-sum secondCard (t .shoe .order) (overGuests (λ s. f (s .money))) (λ s card. same (secondCard s card) s refl refl) (secondPlace t) once
+      ∙ pass-sum firstCard (t .shoe .order) (overGuests (λ s. f (s .money))) (λ s card. same (firstCard s card) s refl refl) (firstPlace t) (t .seats)
+    where
+      same : (r s : Seat) → r .money ≡ s .money → r .others ≡ s .others → overGuests (λ x. f (x .money)) r ≡ overGuests (λ x. f (x .money)) s
+      same r s money others =
+          let of : (p : ℕ) → f (guestAt r p .money) ≡ f (guestAt s p .money) = λ p. ap f (guest-money r s money others p) in
+          omega (arith, of 0, of 1, of 2)
 
   some-staked : anyOf isStaked (dealtSeats t) ≡ anyOf isStaked (t .seats)
   unfolding dealtSeats
@@ -175,24 +186,30 @@ module _ (t : Table) (shaped : Shaped t) (ok : DealAccepted t) where
   unfolding dealtSeats
   as-many = pass-length secondCard (t .shoe .order) (secondPlace t) once ∙ pass-length firstCard (t .shoe .order) (firstPlace t) (t .seats)
 
-  -- what a seat laid is its stake and its side stakes, before the deal and after it
-  laid-before : (i : ℕ) → laid (seatAt t i) ≡ stake (seatAt t i) + allSides (sides (seatAt t i))
-  laid-before i = laid-stake (seatAt t i) (no-hand-yet i)
-
-  pub laid-after : (i : ℕ) → laid (getD (dealtSeats t) i missingSeat) ≡ laid (seatAt t i)
-  laid-after i =
-      dealt-either i (λ x. laid x ≡ laid (seatAt t i))
-      (λ staked. omega (arith, dealt-laid (seatAt t i) (four i staked) (firstOf t i) (secondOf t i), laid-before i, no-insurance-yet i))
+  -- what a guest laid is the stake and the side stakes, before the deal and after it
+  pub laid-after : (i p : ℕ) → laid (guestAt (getD (dealtSeats t) i missingSeat) p) ≡ laid (guestOf t i p)
+  laid-after i p =
+      dealt-either i (λ x. laid (guestAt x p) ≡ laid (guestOf t i p))
+      (λ staked.
+      omega (
+        arith,
+        ap laid (dealt-guest (seatAt t i) (firstOf t i) (secondOf t i) p),
+        dealt-laid (guestOf t i p) (four-of i p staked) (firstOf t i) (secondOf t i),
+        laid-stake (guestOf t i p) (no-hands-yet i p),
+        no-insurance-yet i p,
+      ))
       (λ none. refl)
 
-  pub prizes-after : (i : ℕ) → prizes (t .options) (getD (dealtSeats t) i missingSeat) ≡ 0
-  prizes-after i =
-      dealt-either i (λ x. prizes (t .options) x ≡ 0)
-      (λ staked. dealt-prizes (seatAt t i) (four i staked) (firstOf t i) (secondOf t i) (t .options))
-      (λ none. no-prizes (t .options) (seatAt t i) (no-hand-yet i))
+  pub prizes-after : (i p : ℕ) → prizes (t .options) (guestAt (getD (dealtSeats t) i missingSeat) p) ≡ 0
+  prizes-after i p =
+      dealt-either i (λ x. prizes (t .options) (guestAt x p) ≡ 0)
+      (λ staked.
+      ap (prizes (t .options)) (dealt-guest (seatAt t i) (firstOf t i) (secondOf t i) p)
+      ∙ dealt-prizes (guestOf t i p) (four-of i p staked) (firstOf t i) (secondOf t i) (t .options))
+      (λ none. no-prizes (t .options) (guestOf t i p) (no-hands-yet i p))
 
-  over-laid : sumOf laid (dealtSeats t) ≡ sumOf laid (t .seats)
-  over-laid = sum-places laid (dealtSeats t) (t .seats) missingSeat as-many (λ i h. laid-after i)
+  over-laid : sumOf (overGuests laid) (dealtSeats t) ≡ sumOf (overGuests laid) (t .seats)
+  over-laid = sum-places (overGuests laid) (dealtSeats t) (t .seats) missingSeat as-many (λ i h. omega (arith, laid-after i 0, laid-after i 1, laid-after i 2))
 
   pub deal-money : allMoney (dealEffect t) ≡ allMoney t
   unfolding dealEffect
@@ -214,7 +231,7 @@ module _ (t : Table) (shaped : Shaped t) (ok : DealAccepted t) where
   second-given : (w : ℕ → ℕ) → sumOf (λ x. sumOf w (seatCards x)) (dealtSeats t) ≡ sumOf (λ x. sumOf w (seatCards x)) once + sumOf w (take (stakedSeats (t .seats)) (drop (secondPlace t) (t .shoe .order)))
   unfolding dealtSeats
   second-given w =
-      let as-staked = pass-money firstCard (t .shoe .order) (λ s card. refl) (λ m. cond (ltb 0 (m .stake)) 1 0) (firstPlace t) (t .seats) in
+      let as-staked = pass-sum firstCard (t .shoe .order) (λ s. cond (isStaked s) 1 0) (λ s card. refl) (firstPlace t) (t .seats) in
       rw as-staked at
       (pass-cards secondCard (t .shoe .order) (λ x. sumOf w (seatCards x)) w (secondPlace t) once (omega (arith, all-places, order-length, as-staked))
       (λ i. pass-either firstCard (t .shoe .order) (firstPlace t) (t .seats) i
@@ -322,13 +339,17 @@ module _ (t : Table) (shaped : Shaped t) (ok : DealAccepted t) where
   idle-sound i card h none =
       let f = ok .sound .seats i h in
       record {
-        beyond = f .beyond;
-        stake-fits = f .stake-fits;
-        insured = λ some. absurd (omega (arith, no-insurance-yet i));
-        sides-fit = f .sides-fit;
+        guests = λ p l.
+            record {
+              beyond = f .guests p l .beyond;
+              stake-fits = f .guests p l .stake-fits;
+              insured = λ some. absurd (omega (arith, no-insurance-yet i p));
+              sides-fit = f .guests p l .sides-fit;
+              prizes-back = f .guests p l .prizes-back;
+            };
+        seated-first = f .seated-first;
         waiting = λ empty dealt. omega (arith, ltb-false 0 (stake (seatAt t i)) none);
         playing = λ some. absurd (omega (arith, no-hand-yet i));
-        prizes-back = f .prizes-back;
       }
 
   seat-sound : (i card : ℕ) → i < 9 → SoundSeat (t .options) true card i (getD (dealtSeats t) i missingSeat)

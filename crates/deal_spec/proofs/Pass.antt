@@ -10,7 +10,6 @@ use lib.Seq.{drop-cons}
 use Rattle.lists.specs.Sum.{sumOf}
 use Rattle.lists.proofs.Sums.{sum-map}
 use Rattle.lists.proofs.Places.{map-take}
-use Rattle.table.specs.declared.Money.{Money}
 use Rattle.table.specs.declared.Seat.{Seat}
 use Rattle.table.specs.Seat.{missingSeat, isStaked}
 use Rattle.deal_spec.specs.Pass.{pass}
@@ -35,10 +34,10 @@ module _ (give : Seat → ℕ → Seat) (order : List ℕ) where
       isTrue : Seat → Bool
       isTrue s = true
 
-  -- a sum over the seats' money, which a card leaves
-  pub pass-money : ((s : Seat) (card : ℕ) → give s card .money ≡ s .money) → (f : Money → ℕ) (n : ℕ) (seats : List Seat) → sumOf (λ s. f (s .money)) (pass give order n seats) ≡ sumOf (λ s. f (s .money)) seats
-  pass-money same f n seats =
-      sym (sum-map f (λ s. s .money) (pass give order n seats)) ∙ ap (sumOf f) (pass-view (λ s. s .money) same n seats) ∙ sum-map f (λ s. s .money) seats
+  -- a sum over the seats that a card leaves
+  pub pass-sum : (f : Seat → ℕ) → ((s : Seat) (card : ℕ) → f (give s card) ≡ f s) → (n : ℕ) (seats : List Seat) → sumOf f (pass give order n seats) ≡ sumOf f seats
+  pass-sum f same n seats =
+      sym (sum-map (λ k. k) f (pass give order n seats)) ∙ ap (sumOf (λ k. k)) (pass-view f same n seats) ∙ sum-map (λ k. k) f seats
 
   -- the seat at a place
   pub pass-at : (n : ℕ) (seats : List Seat) (i : ℕ)

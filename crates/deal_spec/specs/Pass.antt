@@ -12,7 +12,7 @@ use Rattle.table.specs.Seat.{missingPlace, makeSeat, isStaked}
 
 -- The seat with this hand at its first place, and no other; its k-th card is kept for the side stakes (request 2.6).
 abbrev pub withOnly : Seat → SeatHand → ℕ → ℕ → Seat
-withOnly s h k card = makeSeat (s .money) (record { places = set (s .hands .places) 0 h; many = 1 }) (set (s .first) k card)
+withOnly s h k card = makeSeat (s .money) (s .others) (record { places = set (s .hands .places) 0 h; many = 1 }) (set (s .first) k card)
 
 -- The first card opens the seat's hand; the second goes to it.
 abbrev pub firstCard : Seat → ℕ → Seat

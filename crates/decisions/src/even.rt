@@ -19,7 +19,7 @@ use table::Table;
 // Behind the conditions in turn: 13 the rules do not permit it to that hand.
 fn even_number(t: Table, at: At) -> u8
     requires { ⌜ broken t ≡ false ⌝ }
-    ensures { λ r. ⌜ r ≡ first (evenConditions t (at .seat)) ⌝ }
+    ensures { λ r. ⌜ r ≡ first (evenConditions t (at .seat) (at .position)) ⌝ }
 {
     let number = turn_number(t, at);
     if number != 0 {
@@ -32,7 +32,7 @@ fn even_number(t: Table, at: At) -> u8
 
 pub fn even(t: Table, at: At) -> Outcome
     requires { ⌜ broken t ≡ false ⌝ }
-    ensures { λ r. ⌜ r ≡ outcome (evenConditions t (at .seat)) (evenEffect t (at .seat)) t ⌝ }
+    ensures { λ r. ⌜ r ≡ outcome (evenConditions t (at .seat) (at .position)) (evenEffect t (at .seat)) t ⌝ }
 {
     let number = even_number(t, at);
     answer(t, at, number, BY_EVEN)

@@ -19,7 +19,7 @@ use table::Table;
 // Behind the conditions in turn: 13 the rules do not permit it to that hand.
 fn five_number(t: Table, at: At) -> u8
     requires { ⌜ broken t ≡ false ⌝ }
-    ensures { λ r. ⌜ r ≡ first (fiveConditions t (at .seat)) ⌝ }
+    ensures { λ r. ⌜ r ≡ first (fiveConditions t (at .seat) (at .position)) ⌝ }
 {
     let number = turn_number(t, at);
     if number != 0 {
@@ -32,7 +32,7 @@ fn five_number(t: Table, at: At) -> u8
 
 pub fn five(t: Table, at: At) -> Outcome
     requires { ⌜ broken t ≡ false ⌝ }
-    ensures { λ r. ⌜ r ≡ outcome (fiveConditions t (at .seat)) (fiveEffect t (at .seat)) t ⌝ }
+    ensures { λ r. ⌜ r ≡ outcome (fiveConditions t (at .seat) (at .position)) (fiveEffect t (at .seat)) t ⌝ }
 {
     let number = five_number(t, at);
     answer(t, at, number, BY_FIVE)

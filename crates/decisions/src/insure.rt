@@ -1,4 +1,4 @@
-// insure: an amount from purse to layout, with an ace up, before the round's first accepted decision, once a seat (document 01, "The seventeen calls",
+// insure: an amount from purse to layout, with an ace up, before the round's first accepted decision, once a position (document 01, "The seventeen calls",
 // the guest; article 12).
 ghost use mathlib.Core.Path.{_≡_};
 ghost use mathlib.Core.Bool.{false};
@@ -6,11 +6,10 @@ ghost use Prim.Native.Nat.{_≤_};
 ghost use Rattle.call.specs.Refusal.{first};
 ghost use Rattle.answer.specs.Outcome.{outcome};
 ghost use Rattle.table.specs.Guest.{insuring};
-ghost use Rattle.table.specs.Seat.{purse, stake, withMoney};
 ghost use Rattle.decisions_spec.specs.Insure.{insureConditions, insureEffect};
 ghost use Rattle.table.specs.Broken.{broken};
 use crate::progress::any_decided;
-use answer::conditions::seat_number;
+use answer::conditions::guest_number;
 use answer::outcome::Outcome;
 use call::At;
 use call::refusal::asked;
@@ -18,37 +17,37 @@ use cards::card::is_ace;
 use options::permitted::insurance_permitted;
 use state::round::is_dealt;
 use state::round::up;
+use state::seat::guest_money;
 use state::seat::seat_at;
+use state::seat::with_guest;
 use state::seat::with_seat;
-use table::Seat;
+use table::Money;
 use table::Table;
 
-// The seat with n of its purse laid as insurance.
-fn insured(s: Seat, n: u64) -> Seat
-    requires { ⌜ (n ≤ purse s) × (n ≤ stake s) ⌝ }
-    ensures { λ r. ⌜ r ≡ withMoney s (insuring (s .money) n) ⌝ }
+// A guest's money with n of the purse laid as insurance.
+fn insured(m: Money, n: u64) -> Money
+    requires { ⌜ (n ≤ m .purse) × (n ≤ m .stake) ⌝ }
+    ensures { λ r. ⌜ r ≡ insuring m n ⌝ }
 {
-    let mut money = s.money;
-    money.purse = money.purse - n;
-    money.insurance = n as u32;
-    let mut next = s;
-    next.money = money;
+    let mut next = m;
+    next.purse = m.purse - n;
+    next.insurance = n as u32;
     next
 }
 
-// Behind the conditions of every call of a seat: 9 insured already, 10 no stake, 12 a decision was taken, 13 no ace up, 14 nothing or not the option's
+// Behind the conditions of every call of a guest: 9 insured already, 10 no stake, 12 a decision was taken, 13 no ace up, 14 nothing or not the option's
 // part of the stake, 15 not in the purse.
 fn insure_number(t: Table, at: At, n: u64) -> u8
     requires { ⌜ broken t ≡ false ⌝ }
-    ensures { λ r. ⌜ r ≡ first (insureConditions t (at .seat) n) ⌝ }
+    ensures { λ r. ⌜ r ≡ first (insureConditions t (at .seat) (at .position) n) ⌝ }
 {
     let o = t.options;
-    let early = seat_number(5, !is_dealt(t), o.seats, at.seat);
+    let early = guest_number(5, !is_dealt(t), o.seats, at);
     if early != 0 {
         return early;
     }
     let s = seat_at(t, at.seat as usize);
-    let money = s.money;
+    let money = guest_money(s, at.position);
     let permitted = insurance_permitted(o, money.stake, n);
     asked(
         9,
@@ -75,7 +74,7 @@ fn insure_number(t: Table, at: At, n: u64) -> u8
 
 pub fn insure(t: Table, at: At, n: u64) -> Outcome
     requires { ⌜ broken t ≡ false ⌝ }
-    ensures { λ r. ⌜ r ≡ outcome (insureConditions t (at .seat) n) (insureEffect t (at .seat) n) t ⌝ }
+    ensures { λ r. ⌜ r ≡ outcome (insureConditions t (at .seat) (at .position) n) (insureEffect t (at .seat) (at .position) n) t ⌝ }
 {
     let number = insure_number(t, at, n);
     if number != 0 {
@@ -83,8 +82,9 @@ pub fn insure(t: Table, at: At, n: u64) -> Outcome
     }
     let j = at.seat as usize;
     let s = seat_at(t, j);
+    let money = insured(guest_money(s, at.position), n);
     Outcome {
         number,
-        table: with_seat(t, j, insured(s, n)),
+        table: with_seat(t, j, with_guest(s, at.position, money)),
     }
 }

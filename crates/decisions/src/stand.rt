@@ -13,7 +13,7 @@ use table::Table;
 
 pub fn stand(t: Table, at: At) -> Outcome
     requires { ⌜ broken t ≡ false ⌝ }
-    ensures { λ r. ⌜ r ≡ outcome (standConditions t (at .seat)) (standEffect t (at .seat)) t ⌝ }
+    ensures { λ r. ⌜ r ≡ outcome (standConditions t (at .seat) (at .position)) (standEffect t (at .seat)) t ⌝ }
 {
     let number = turn_number(t, at);
     answer(t, at, number, BY_STAND)

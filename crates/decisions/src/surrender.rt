@@ -11,7 +11,7 @@ ghost use Rattle.decisions_spec.specs.Surrender.{surrenderConditions, surrender
 ghost use Rattle.table.specs.Broken.{broken};
 use crate::progress::any_drew;
 use crate::turn::with_place;
-use answer::conditions::seat_number;
+use answer::conditions::guest_number;
 use answer::outcome::Outcome;
 use call::At;
 use call::refusal::asked;
@@ -20,32 +20,38 @@ use rules::seat_hand::BY_SURRENDER;
 use rules::turn::seat_waits;
 use state::round::is_dealt;
 use state::round::up;
+use state::seat::decider;
+use state::seat::guest_money;
 use state::seat::seat_at;
 use state::seat::with_seat;
 use table::Seat;
 use table::Table;
 
-// Behind the conditions of every call of a seat: 10 no stake, 12 somebody has drawn, 12 the seat's hand does not wait, 13 an ace up.
+// Behind the conditions of every call of a guest: 10 no stake, 23 not the deciding guest, 12 somebody has drawn, 12 the seat's hand does not wait, 13 an ace up.
 fn surrender_number(t: Table, at: At) -> u8
     requires { ⌜ broken t ≡ false ⌝ }
-    ensures { λ r. ⌜ r ≡ first (surrenderConditions t (at .seat)) ⌝ }
+    ensures { λ r. ⌜ r ≡ first (surrenderConditions t (at .seat) (at .position)) ⌝ }
 {
     let o = t.options;
-    let early = seat_number(5, !is_dealt(t), o.seats, at.seat);
+    let early = guest_number(5, !is_dealt(t), o.seats, at);
     if early != 0 {
         return early;
     }
     let card = up(t);
     let s = seat_at(t, at.seat as usize);
     let hands = s.hands;
-    let money = s.money;
+    let money = guest_money(s, at.position);
     asked(
         10,
         !(0 < money.stake),
         asked(
-            12,
-            any_drew(t),
-            asked(12, !seat_waits(o, card, hands), asked(13, is_ace(card), 0)),
+            23,
+            decider(o, s) != at.position,
+            asked(
+                12,
+                any_drew(t),
+                asked(12, !seat_waits(o, card, hands), asked(13, is_ace(card), 0)),
+            ),
         ),
     )
 }
@@ -72,7 +78,7 @@ fn surrendered(t: Table, at: At) -> Table
 
 pub fn surrender(t: Table, at: At) -> Outcome
     requires { ⌜ broken t ≡ false ⌝ }
-    ensures { λ r. ⌜ r ≡ outcome (surrenderConditions t (at .seat)) (surrenderEffect t (at .seat)) t ⌝ }
+    ensures { λ r. ⌜ r ≡ outcome (surrenderConditions t (at .seat) (at .position)) (surrenderEffect t (at .seat)) t ⌝ }
 {
     let number = surrender_number(t, at);
     if number != 0 {

@@ -9,7 +9,7 @@ ghost use Rattle.table.specs.Seat.{hands as handsOf};
 ghost use Rattle.rules.specs.Turn.{seatWaits, waitingPlace};
 ghost use Rattle.decisions.specs.MayTake.{mayTakeBy};
 ghost use Rattle.table.specs.Broken.{broken};
-use answer::conditions::seat_number;
+use answer::conditions::guest_number;
 use call::At;
 use call::refusal::asked;
 use options::Options;
@@ -24,25 +24,35 @@ use rules::seat_hand::SeatHand;
 use rules::seat_hand::used;
 use rules::turn::waiting_place;
 use state::round::is_dealt;
+use state::seat::decider;
+use state::seat::guest_money;
 use state::seat::seat_at;
 use state::turn::seat_in_turn;
 use table::Seat;
 use table::Table;
 
-// Behind the conditions of every call of a seat: 10 no stake, 11 not that seat's turn.
+// Behind the conditions of every call of a guest: 10 no stake, 11 not that seat's turn, 23 not the deciding guest.
 pub fn turn_number(t: Table, at: At) -> u8
     requires { ⌜ broken t ≡ false ⌝ }
-    ensures { λ r. ⌜ r ≡ first (turnConditions t (at .seat)) ⌝ }
+    ensures { λ r. ⌜ r ≡ first (turnConditions t (at .seat) (at .position)) ⌝ }
 {
     let o = t.options;
-    let early = seat_number(5, !is_dealt(t), o.seats, at.seat);
+    let early = guest_number(5, !is_dealt(t), o.seats, at);
     if early != 0 {
         return early;
     }
     let j = at.seat as usize;
     let s = seat_at(t, j);
-    let money = s.money;
-    asked(10, !(0 < money.stake), asked(11, seat_in_turn(t) != j, 0))
+    let money = guest_money(s, at.position);
+    asked(
+        10,
+        !(0 < money.stake),
+        asked(
+            11,
+            seat_in_turn(t) != j,
+            asked(23, decider(o, s) != at.position, 0),
+        ),
+    )
 }
 
 // The first waiting hand of a seat that has one.

@@ -4,7 +4,7 @@ use mathlib.Core.Bool.{true, false, not, cond, and-eq-true-iff}
 use Prim.Native.Nat.{ℕ, _≤_, _<_}
 use native.Mathlib.Omega.{arith}
 use native.Mathlib.Decide.{decLe}
-use lib.Dec.{eqb}
+use lib.Dec.{leb, eqb}
 use lib.ListN.{length}
 use borrow.Author.Tests.{ltb-true, leb-false, eqb-true, not-false}
 use Rattle.lists.proofs.Tests.{first-inside, first-passes}
@@ -13,18 +13,17 @@ use Rattle.rules.specs.SeatHand.{Played, playedOf, splitAces}
 use Rattle.rules.specs.Waits.{waits, acesWait, cardsWait}
 use Rattle.rules.specs.Turn.{seatWaits}
 use Rattle.rules.proofs.seat_hand.Places.{many-hands, hand-at}
-use Rattle.table.specs.declared.Seat.{Seat}
 use Rattle.table.specs.declared.Table.{Table}
-use Rattle.table.specs.Seat.{missingPlace, stake, insurance, isStaked, hands}
-use Rattle.table.specs.Table.{seatAt, isDealt, noSuchSeat, up}
+use Rattle.table.specs.Seat.{missingPlace, stake, isStaked, hands}
+use Rattle.table.specs.Table.{seatAt, guestOf, isDealt, noSuchSeat, up}
 use Rattle.table.specs.Broken.{broken}
 use Rattle.table.specs.Shape.{Shaped, ShapedSeat}
-use Rattle.table.specs.Aids.Sound.{Sound, Insured, Playing}
-use Rattle.table.proofs.Facts.{seat-of-nine}
+use Rattle.table.specs.Aids.Sound.{Sound, Playing}
+use Rattle.table.proofs.Facts.{seat-of-nine, unbroken}
 use Rattle.decisions_spec.specs.Place.{placeOf}
 use Rattle.decisions_spec.specs.Turn.{waitingPlaceOf}
 
--- a round is dealt, and the seat is one of the table's and staked in it
+-- a round is dealt, and the seat is one of the table's and staked in it, by its seated guest
 pub record Acting (t : Table) (j : ℕ) : Type 0 where
   pub unbroken : broken t ≡ false
   pub dealt : isDealt t ≡ true
@@ -32,16 +31,25 @@ pub record Acting (t : Table) (j : ℕ) : Type 0 where
   pub nine : j < 9
   pub staked : 0 < stake (seatAt t j)
 
--- 1, 5, 8 and 10 do not hold
-pub acting : (t : Table) (j : ℕ) → broken t ≡ false → not (isDealt t) ≡ false → noSuchSeat t j ≡ false → not (isStaked (seatAt t j)) ≡ false → Acting t j
-acting t j unbroken in-round such-seat staked =
+-- 1, 5, 8, 22 and 10 do not hold: some guest of it has staked, and so has the seated one
+pub acting : (t : Table) (j p : ℕ) → broken t ≡ false → not (isDealt t) ≡ false → noSuchSeat t j ≡ false → leb 3 p ≡ false → not (isStaked (guestOf t j p)) ≡ false → Acting t j
+acting t j p whole in-round such-seat such-position staked =
     record {
-      unbroken = unbroken;
+      unbroken = whole;
       dealt = not-false (isDealt t) in-round;
       within = leb-false (t .options .seats) j such-seat;
-      nine = seat-of-nine t j unbroken such-seat;
-      staked = ltb-true 0 (stake (seatAt t j)) (not-false (isStaked (seatAt t j)) staked);
+      nine = seat-of-nine t j whole such-seat;
+      staked = go (decLe 1 (stake (seatAt t j)));
     }
+  where
+    go : Dec (1 ≤ stake (seatAt t j)) → 0 < stake (seatAt t j)
+    go (yes h) = h
+    go (no h) =
+        omega (
+          arith,
+          ltb-true 0 (stake (guestOf t j p)) (not-false (isStaked (guestOf t j p)) staked),
+          unbroken t whole .seats j (seat-of-nine t j whole such-seat) .seated-first p (leb-false 3 p such-position) (omega arith),
+        )
 
 -- its hands, and its hand at p, which waits
 pub record Staked (t : Table) (j : ℕ) : Type 0 where
@@ -90,9 +98,3 @@ module _ (t : Table) (shaped : Shaped t) (sound : Sound t) (j : ℕ) (act : Acti
       let waiting : waits (t .options) (up t) (length (hands s)) (playedOf (placeOf s (waitingPlaceOf t j))) ≡ true =
       ap (waits (t .options) (up t) (length (hands s))) (sym (hand-at (s .hands) (waitingPlaceOf t j) missingPlace here)) ∙ first-passes test (hands s) (playedOf missingPlace) inside in
       record { seat = staked-seat; here = here; not-ended = waits-open t (length (hands s)) (playedOf (placeOf s (waitingPlaceOf t j))) waiting }
-
-  -- the insurance stays, where stake and insurance do
-  pub still-insured : (s : Seat) → stake s ≡ stake (seatAt t j) → insurance s ≡ insurance (seatAt t j) → 0 < insurance s → Insured (t .options) (isDealt t) (up t) s
-  still-insured s same-stake same-insurance some =
-      let was = sound .seats j (act .nine) .insured (omega arith) in
-      record { in-round = was .in-round; ace-up = was .ace-up; staked = omega (arith, was .staked); permitted = rw (same-stake, same-insurance) (was .permitted) }

@@ -5,7 +5,7 @@ use mathlib.Core.List.{List, [], _∷_, _++_}
 use Prim.Native.Nat.{ℕ, _+_, _-_, _*_, _≤_, _<_}
 use native.Mathlib.Omega.{arith}
 use lib.Dec.{ltb, eqb}
-use lib.ListN.{length, getD, set, length-take, length-append, List·getD-append}
+use lib.ListN.{length, getD, set, length-map, length-take, length-append, List·getD-append}
 use borrow.Author.Tests.{ltb-true}
 use Rattle.lists.specs.Sum.{sumOf}
 use Rattle.lists.proofs.Sums.{sum-snoc, sum-one}
@@ -22,18 +22,18 @@ use Rattle.rules.specs.Turn.{waitingPlace}
 use Rattle.rules.specs.Waits.{waits}
 use Rattle.rules.specs.Permits.{takesCards}
 use Rattle.payment.specs.Wager.{wager}
-use Rattle.payment.specs.Prize.{prize}
+use Rattle.payment.specs.Prize.{prize, mostPrize}
 use Rattle.payment.proofs.Bounds.{wager-single, prize-none, prize-most}
-use Rattle.history.specs.Entry.{Entry, isInsure, isDraw, isDouble, isSplit}
+use Rattle.history.specs.Entry.{Entry, isDraw, isDouble, isSplit}
 use Rattle.history.specs.Cards.{Cards, callTakes}
 use Rattle.history.specs.Hands.{played, missingHand, nextCard}
 use Rattle.history.specs.Money.{lays, wins}
 use Rattle.table.specs.declared.Money.{Money}
+use Rattle.table.specs.declared.Seat.{Seat}
 use Rattle.table.specs.declared.Table.{Table}
-use Rattle.table.specs.Guest.{withPurse}
-use Rattle.table.specs.Seat.{purse, stake, hands}
+use Rattle.table.specs.Seat.{guestAt, mapGuests, overGuests, purse, stake, hands}
 use Rattle.table.specs.Shoe.{withDrawn}
-use Rattle.table.specs.Table.{seatAt, up, tableOrder, cardsLeft}
+use Rattle.table.specs.Table.{seatAt, guestOf, up, tableOrder, cardsLeft}
 use Rattle.table.specs.Broken.{soundOrigin, soundEnding}
 use Rattle.table.specs.Shape.{Shaped}
 use Rattle.table.specs.Aids.Sound.{Sound, SoundHand}
@@ -43,10 +43,11 @@ use Rattle.table.proofs.Cover.{tray-covers}
 use Rattle.agreement.specs.Aids.Agrees.{CardsAgree}
 use Rattle.agreement.proofs.Events.{Events, drawing}
 use Rattle.decisions_spec.specs.Turn.{waitingPlaceOf, waitingHandOf, mayTake}
-use Rattle.decisions_spec.specs.Card.{cardAhead, grownHand, cardEffect}
+use Rattle.decisions_spec.specs.Card.{cardAhead, grownHand, cardMoney, cardEffect}
 use Rattle.decisions_spec.proofs.Acting.{Waiting}
 use Rattle.decisions_spec.proofs.Turn.{TurnAccepted, turn-waiting}
-use Rattle.decisions_spec.proofs.Decision.{makes, Guest, draws-some, Decision}
+use Rattle.decisions_spec.proofs.Paying.{Pays, all-pay, paid-money, paid-purse}
+use Rattle.decisions_spec.proofs.Decision.{makes, Deciding, draws-some, Decision}
 use Rattle.decisions_spec.proofs.HandChange.{HandChange, hand-decided}
 
 -- the history's next cards are the table's
@@ -56,26 +57,25 @@ next-card t c n agree left =
     ∙ ap (λ (k : ℕ). getD (tableOrder t) (k + n) 0) (sym (agree .taken))
     ∙ card-at t (t .shoe .drawn + n) left
 
--- what the history makes of the call
-pub record Growing (t : Table) (e : Entry) (j more code : ℕ) : Type 0 where
-  pub guest : Guest e j
-  pub no-insure : isInsure e ≡ false
+-- what the history makes of the call, by which a guest of stake S lays `times` × S
+pub record Growing (t : Table) (e : Entry) (j times code : ℕ) : Type 0 where
+  pub deciding : Deciding e j
   pub no-split : isSplit e ≡ false
   pub gives : isDraw e || isDouble e ≡ true
   pub takes : (staked : ℕ) (c : Cards) → callTakes (t .options) staked c e ≡ 1
   pub decides : (c : Cards) (h : Played) → getD (hands (seatAt t j)) (waitingPlaceOf t j) missingHand ≡ h → h .ended ≡ notEnded
       → makes (hands (seatAt t j)) (waitingPlaceOf t j) c e ≡ set (hands (seatAt t j)) (waitingPlaceOf t j) (played (h .cards ++ (nextCard c 0 ∷ [])) (h .origin) code)
-  pub lays-it : lays j (stake (seatAt t j)) e ≡ more
+  pub lays-it : (q S : ℕ) → lays j q S e ≡ times * S
   pub wins-it : (o : Options) (c : Cards) (S : ℕ) (hs : List Played) (h : Played) → getD hs (waitingPlace o (getD (c .bank) 0 0) hs) missingHand ≡ h → h .ended ≡ notEnded
       → wins o c j S hs e ≡ prize o S (played (h .cards ++ (nextCard c 0 ∷ [])) (h .origin) code)
-  pub wager-is : (h : Played) → h .ended ≡ code → wager (stake (seatAt t j)) h ≡ stake (seatAt t j) + more
+  pub wager-is : (S : ℕ) (h : Played) → h .ended ≡ code → wager S h ≡ S + times * S
 
 -- what its conditions give; the ending fits the hand with the card
-pub record Allowed (t : Table) (j more code : ℕ) : Type 0 where
+pub record Allowed (t : Table) (j times code : ℕ) : Type 0 where
   pub below : total (cardsOf (waitingHandOf t j .hand)) < 21
   pub fits : cardsOf (grownHand t j code .hand) ≡ cardsOf (waitingHandOf t j .hand) ++ (cardAhead t 0 ∷ [])
       → soundEnding (t .options) (up t) (seatAt t j .hands .many) (playedOf (grownHand t j code)) ≡ true
-  pub purse-has : more ≤ purse (seatAt t j)
+  pub purse-has : (q : ℕ) → q < 3 → times * stake (guestOf t j q) ≤ purse (guestOf t j q)
   pub left : 1 ≤ cardsLeft t
 
 -- a hand below 21 with the next card
@@ -107,15 +107,42 @@ module _ (o : Options) (up many : ℕ) (h : SeatHand) (card code : ℕ) (full : 
   more-full : length (withCard (h .hand) card .cards) ≡ 20
   more-full = with-card-full (h .hand) card full room
 
-module _ (t : Table) (e : Entry) (j more code : ℕ) (shaped : Shaped t) (sound : Sound t) (turn : TurnAccepted t j) (g : Growing t e j more code) (a : Allowed t j more code) where
+module _ (t : Table) (e : Entry) (j times code : ℕ) (shaped : Shaped t) (sound : Sound t) (turn : TurnAccepted t j) (g : Growing t e j times code) (a : Allowed t j times code) where
   w : Waiting t j (waitingPlaceOf t j)
   w = turn-waiting t shaped sound j turn
 
-  abbrev won : ℕ
-  won = prize (t .options) (stake (seatAt t j)) (playedOf (grownHand t j code))
+  -- what a guest of stake S lays and wins
+  abbrev more : ℕ → ℕ
+  more S = times * S
 
-  abbrev new-money : Money
-  new-money = withPurse (seatAt t j .money) (purse (seatAt t j) - more + won)
+  abbrev winner : Played
+  winner = playedOf (grownHand t j code)
+
+  abbrev won : ℕ → ℕ
+  won S = prize (t .options) S winner
+
+  abbrev pays-card : Money → Money
+  pays-card = cardMoney (t .options) times winner
+
+  abbrev paid-seat : Seat
+  paid-seat = mapGuests pays-card (seatAt t j)
+
+  abbrev all-won : ℕ
+  all-won = overGuests (λ s. won (stake s)) (seatAt t j)
+
+  pays : Pays pays-card more won (seatAt t j)
+  pays =
+      record {
+        two = w .seat .shaped .two-others;
+        keeps = λ m. refl;
+        moves = λ m has. omega arith;
+        lays-none = omega arith;
+        wins-none = omega (arith, prize-most (t .options) 0 winner);
+        enough = a .purse-has;
+      }
+
+  each : (q : ℕ) → guestAt paid-seat q .money ≡ pays-card (guestOf t j q .money)
+  each = all-pay pays-card more won (seatAt t j) pays
 
   full : length (waitingHandOf t j .hand .cards) ≡ 20
   full = w .seat .shaped .twenty-cards (waitingPlaceOf t j) (omega (arith, w .here, w .seat .few))
@@ -133,10 +160,9 @@ module _ (t : Table) (e : Entry) (j more code : ℕ) (shaped : Shaped t) (sound 
   history-cards : (c : Cards) → CardsAgree c t → cardsOf (waitingHandOf t j .hand) ++ (nextCard c 0 ∷ []) ≡ cardsOf (grownHand t j code .hand)
   history-cards c agree = ap (λ (x : ℕ). cardsOf (waitingHandOf t j .hand) ++ (x ∷ [])) (next-card t c 0 agree (omega (arith, a .left))) ∙ sym cards
 
-  wins-won : (c : Cards) → CardsAgree c t → wins (t .options) c j (stake (seatAt t j)) (hands (seatAt t j)) e ≡ won
-  wins-won c agree =
+  wins-won : (c : Cards) → CardsAgree c t → (S : ℕ) → wins (t .options) c j S (hands (seatAt t j)) e ≡ won S
+  wins-won c agree S =
       let o = t .options in
-      let S = stake (seatAt t j) in
       let hs = hands (seatAt t j) in
       let h = playedOf (waitingHandOf t j) in
       g .wins-it o c S hs h (ap (λ (b : List ℕ). getD hs (waitingPlace o (getD b 0 0) hs) missingHand) (sym (agree .bank)) ∙ same-hand) (w .not-ended)
@@ -154,18 +180,17 @@ module _ (t : Table) (e : Entry) (j more code : ℕ) (shaped : Shaped t) (sound 
       (drew-cards (hands s) p new missingHand inside
       (λ two. omega (arith, full, was .two-cards, was .twenty-cards, length-take (h .count) (h .cards), simp length-append at (ap length cards))))
 
-  card-change : HandChange t e j (waitingPlaceOf t j) (t .tray - won) new-money (grownHand t j code) (withDrawn (t .shoe) 1) 1 more won
+  card-change : HandChange t e j (waitingPlaceOf t j) (t .tray - all-won) (paid-seat .money) (paid-seat .others) (grownHand t j code) (withDrawn (t .shoe) 1) 1 more won
   card-change =
       let s = seatAt t j in
       let h = waitingHandOf t j in
       let new = grownHand t j code in
+      let most : (q : ℕ) → won (stake (guestOf t j q)) ≤ mostPrize (stake (guestOf t j q)) = λ q. prize-most (t .options) (stake (guestOf t j q)) winner in
       record {
-        guest = g .guest;
-        no-insure = g .no-insure;
+        deciding = g .deciding;
         no-split = g .no-split;
-        same-stake = refl;
-        same-insurance = refl;
-        same-sides = refl;
+        as-many = length-map (s .others) pays-card;
+        same-money = paid-money pays-card more won s pays paid-seat each;
         full = more-full (t .options) (up t) (s .hands .many) h (cardAhead t 0) code full was (a .below);
         sound-hand = more-sound (t .options) (up t) (s .hands .many) h (cardAhead t 0) code full was (a .below) (a .fits cards);
         turn-is = λ in-turn. turn;
@@ -173,10 +198,10 @@ module _ (t : Table) (e : Entry) (j more code : ℕ) (shaped : Shaped t) (sound 
         events = card-events;
         lays-it = g .lays-it;
         wins-it = wins-won;
-        wager-grows = omega (arith, g .wager-is (playedOf new) refl, wager-single (stake s) (playedOf h) (λ b. omega (arith, w .not-ended)));
-        prize-grows = omega (arith, prize-none (t .options) (stake s) (playedOf h) (no-prize-below-21 (cardsOf (h .hand)) (a .below)));
-        purse-pays = omega (arith, a .purse-has);
-        tray-pays = omega (arith, prize-most (t .options) (stake s) (playedOf new), tray-covers t (shaped .nine-seats) sound (w .seat .acting .dealt) j (w .seat .acting .nine));
+        wager-grows = λ S. omega (arith, g .wager-is S (playedOf new) refl, wager-single S (playedOf h) (λ b. omega (arith, w .not-ended)));
+        prize-grows = λ S. omega (arith, prize-none (t .options) S (playedOf h) (no-prize-below-21 (cardsOf (h .hand)) (a .below)));
+        purse-pays = paid-purse pays-card more won s pays paid-seat each;
+        tray-pays = omega (arith, most 0, most 1, most 2, tray-covers t (shaped .nine-seats) sound (w .seat .acting .dealt) j (w .seat .acting .nine));
         draws = draws-some t 1 (a .left) (omega arith);
         takes = g .takes;
         cards-grow = λ v.
@@ -184,19 +209,19 @@ module _ (t : Table) (e : Entry) (j more code : ℕ) (shaped : Shaped t) (sound 
             (arith, ap (sumOf v) cards, sum-snoc v (cardsOf (h .hand)) (cardAhead t 0), ap (sumOf v) (next-one t shaped sound (omega (arith, a .left))), sum-one v (cardAhead t 0));
       }
 
-  pub card-decides : Decision t e (cardEffect more code t j)
+  pub card-decides : Decision t e (cardEffect times code t j)
   unfolding cardEffect
   card-decides =
       record {
         j = j;
-        tray = t .tray - won;
-        seat = with-hand (seatAt t j) new-money (waitingPlaceOf t j) (grownHand t j code);
+        tray = t .tray - all-won;
+        seat = with-hand paid-seat (waitingPlaceOf t j) (grownHand t j code);
         shoe = withDrawn (t .shoe) 1;
         k = 1;
         more = more;
         won = won;
         is = refl;
-        decided = hand-decided t e j (waitingPlaceOf t j) (t .tray - won) new-money (grownHand t j code) (withDrawn (t .shoe) 1) 1 more won shaped sound w card-change;
+        decided = hand-decided t e j (waitingPlaceOf t j) (t .tray - all-won) (paid-seat .money) (paid-seat .others) (grownHand t j code) (withDrawn (t .shoe) 1) 1 more won w card-change;
       }
 
 -- a hand that takes cards is below 21

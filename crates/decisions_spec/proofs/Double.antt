@@ -1,8 +1,8 @@
--- An accepted double lays the stake again and gives the hand whose turn it is its last card, with the prize that this makes.
+-- An accepted double lays each guest's stake again and gives the hand whose turn it is its last card, with the prize that this makes.
 use mathlib.Core.Path.{_≡_, refl, ap, _∙_}
 use mathlib.Core.Bool.{true, not, _||_}
 use mathlib.Core.List.{List, [], _∷_, _++_}
-use Prim.Native.Nat.{ℕ, _≤_}
+use Prim.Native.Nat.{ℕ, _≤_, _<_}
 use native.Mathlib.Omega.{arith}
 use lib.Dec.{ltb, eqb}
 use lib.ListN.{length, getD, set, take, length-append}
@@ -27,7 +27,7 @@ use Rattle.history.specs.Hands.{played, nextCard, grown, finished, decide}
 use Rattle.history.specs.Money.{lays, wins}
 use Rattle.table.specs.declared.Table.{Table}
 use Rattle.table.specs.Seat.{purse, stake, hands}
-use Rattle.table.specs.Table.{seatAt, up, cardsLeft}
+use Rattle.table.specs.Table.{seatAt, guestOf, up, cardsLeft}
 use Rattle.table.specs.Broken.{soundDouble, soundEnding}
 use Rattle.table.specs.Shape.{Shaped}
 use Rattle.table.specs.Aids.Sound.{Sound}
@@ -36,23 +36,24 @@ use Rattle.decisions_spec.specs.Card.{cardAhead, grownHand}
 use Rattle.decisions_spec.specs.Double.{doubleConditions, doubleEffect}
 use Rattle.decisions_spec.proofs.Decision.{Decision}
 use Rattle.decisions_spec.proofs.Turn.{TurnAccepted, turn-accepted}
+use Rattle.decisions_spec.proofs.Paying.{all-enough}
 use Rattle.decisions_spec.proofs.Card.{Growing, Allowed, takes-below, card-decides}
 
 -- what its conditions give
 pub record DoubleAccepted (t : Table) (j : ℕ) : Type 0 where
   pub turn : TurnAccepted t j
   pub permitted : mayTake permitsDouble t j ≡ true
-  pub enough : stake (seatAt t j) ≤ purse (seatAt t j)
+  pub enough : (q : ℕ) → q < 3 → stake (guestOf t j q) ≤ purse (guestOf t j q)
   pub left : 1 ≤ cardsLeft t
 
-pub double-accepted : (t : Table) (j : ℕ) → first (doubleConditions t j) ≡ 0 → DoubleAccepted t j
+pub double-accepted : (t : Table) (j p : ℕ) → first (doubleConditions t j p) ≡ 0 → DoubleAccepted t j
 unfolding doubleConditions allOf
-double-accepted t j e =
-    let (turn, (permitted, (enough, (left, _)))) = turn-accepted t j _ refl e in
+double-accepted t j p e =
+    let (turn, (permitted, (enough, (left, _)))) = turn-accepted t j p _ refl e in
     record {
       turn = turn;
       permitted = not-false (mayTake permitsDouble t j) permitted;
-      enough = ltb-false (purse (seatAt t j)) (stake (seatAt t j)) enough;
+      enough = all-enough (seatAt t j) enough;
       left = ltb-false (cardsLeft t) 1 left;
     }
 
@@ -73,23 +74,22 @@ module _ (o : Options) (up many : ℕ) (h : Played) (permitted : permitsDouble o
       simp (eq-eqb (length cards) 3 three, had, takes 1, takes 2, permits 2)
 
 module _ (t : Table) (at : At) (order : List ℕ) where
-  growing : Growing t (entry (Double at) order) (at .seat) (stake (seatAt t (at .seat))) byDouble
+  growing : Growing t (entry (Double at) order) (at .seat) 1 byDouble
   unfolding lays wins decide callTakes
   growing =
       let j = at .seat in
       record {
-        guest = record { among = refl; seat-is = refl };
-        no-insure = refl;
+        deciding = record { among = refl; no-insure = refl; seat-is = refl };
         no-split = refl;
         gives = refl;
         takes = λ staked c. refl;
         decides = λ c h same still-open. ap (λ (x : Played). set (hands (seatAt t j)) (waitingPlaceOf t j) (finished (grown x (nextCard c 0)) byDouble)) same;
-        lays-it = simp (eq-eqb j j refl);
+        lays-it = λ q S. simp (eq-eqb j j refl) (omega arith);
         wins-it = λ o c S hs h same still-open. simp (eq-eqb j j refl) (ap (λ (x : Played). prize o S (finished (grown x (nextCard c 0)) byDouble)) same);
-        wager-is = λ h code. omega (arith, wager-double (stake (seatAt t j)) h code);
+        wager-is = λ S h code. omega (arith, wager-double S h code);
       }
 
-  allowed : DoubleAccepted t (at .seat) → Allowed t (at .seat) (stake (seatAt t (at .seat))) byDouble
+  allowed : DoubleAccepted t (at .seat) → Allowed t (at .seat) 1 byDouble
   unfolding soundEnding
   allowed a =
       let h = playedOf (waitingHandOf t (at .seat)) in
@@ -97,11 +97,11 @@ module _ (t : Table) (at : At) (order : List ℕ) where
       record {
         below = takes-below t (at .seat) (permits (t .options) (up t) many h (a .permitted) 0);
         fits = doubled (t .options) (up t) many h (a .permitted) (cardAhead t 0) (cardsOf (grownHand t (at .seat) byDouble .hand));
-        purse-has = a .enough;
+        purse-has = λ q h. omega (arith, a .enough q h);
         left = a .left;
       }
 
-  pub double-decides : Shaped t → Sound t → first (doubleConditions t (at .seat)) ≡ 0 → Decision t (entry (Double at) order) (doubleEffect t (at .seat))
+  pub double-decides : Shaped t → Sound t → first (doubleConditions t (at .seat) (at .position)) ≡ 0 → Decision t (entry (Double at) order) (doubleEffect t (at .seat))
   double-decides shaped sound e =
-      let a = double-accepted t (at .seat) e in
-      card-decides t (entry (Double at) order) (at .seat) (stake (seatAt t (at .seat))) byDouble shaped sound (a .turn) growing (allowed a)
+      let a = double-accepted t (at .seat) (at .position) e in
+      card-decides t (entry (Double at) order) (at .seat) 1 byDouble shaped sound (a .turn) growing (allowed a)

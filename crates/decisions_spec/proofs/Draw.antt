@@ -1,6 +1,6 @@
 -- An accepted draw gives the hand whose turn it is the next card, and pays the prize that this makes.
 use mathlib.Core.Path.{_≡_, refl, _∙_, ap}
-use mathlib.Core.Bool.{true}
+use mathlib.Core.Bool.{true, and-false}
 use mathlib.Core.List.{List, [], _∷_, _++_}
 use Prim.Native.Nat.{ℕ, _≤_}
 use native.Mathlib.Omega.{arith}
@@ -19,7 +19,7 @@ use Rattle.history.specs.Cards.{callTakes}
 use Rattle.history.specs.Hands.{played, nextCard, grown, decide}
 use Rattle.history.specs.Money.{lays, wins}
 use Rattle.table.specs.declared.Table.{Table}
-use Rattle.table.specs.Seat.{stake, hands}
+use Rattle.table.specs.Seat.{hands}
 use Rattle.table.specs.Table.{seatAt, cardsLeft}
 use Rattle.table.specs.Broken.{soundEnding}
 use Rattle.table.specs.Shape.{Shaped}
@@ -36,10 +36,10 @@ pub record DrawAccepted (t : Table) (j : ℕ) : Type 0 where
   pub permitted : mayTake permitsDraw t j ≡ true
   pub left : 1 ≤ cardsLeft t
 
-pub draw-accepted : (t : Table) (j : ℕ) → first (drawConditions t j) ≡ 0 → DrawAccepted t j
+pub draw-accepted : (t : Table) (j p : ℕ) → first (drawConditions t j p) ≡ 0 → DrawAccepted t j
 unfolding drawConditions allOf
-draw-accepted t j e =
-    let (turn, (permitted, (left, _))) = turn-accepted t j _ refl e in
+draw-accepted t j p e =
+    let (turn, (permitted, (left, _))) = turn-accepted t j p _ refl e in
     record { turn = turn; permitted = not-false (mayTake permitsDraw t j) permitted; left = ltb-false (cardsLeft t) 1 left }
 
 module _ (t : Table) (at : At) (order : List ℕ) where
@@ -48,27 +48,26 @@ module _ (t : Table) (at : At) (order : List ℕ) where
   growing =
       let j = at .seat in
       record {
-        guest = record { among = refl; seat-is = refl };
-        no-insure = refl;
+        deciding = record { among = refl; no-insure = refl; seat-is = refl };
         no-split = refl;
         gives = refl;
         takes = λ staked c. refl;
         decides = λ c h same still-open.
             ap (λ (x : Played). set (hands (seatAt t j)) (waitingPlaceOf t j) (grown x (nextCard c 0))) same
             ∙ ap (λ (n : ℕ). set (hands (seatAt t j)) (waitingPlaceOf t j) (played (h .cards ++ (nextCard c 0 ∷ [])) (h .origin) n)) still-open;
-        lays-it = simp (eq-eqb j j refl);
+        lays-it = λ q S. simp (eq-eqb j j refl, and-false) (omega arith);
         wins-it = λ o c S hs h same still-open.
             simp (eq-eqb j j refl)
             (ap (λ (x : Played). prize o S (grown x (nextCard c 0))) same
             ∙ ap (λ (n : ℕ). prize o S (played (h .cards ++ (nextCard c 0 ∷ [])) (h .origin) n)) still-open);
-        wager-is = λ h code. omega (arith, wager-single (stake (seatAt t j)) h (λ b. omega arith));
+        wager-is = λ S h code. omega (arith, wager-single S h (λ b. omega arith));
       }
 
   allowed : DrawAccepted t (at .seat) → Allowed t (at .seat) 0 notEnded
   unfolding permitsDraw soundEnding
-  allowed a = record { below = takes-below t (at .seat) (a .permitted); fits = λ cards. refl; purse-has = omega arith; left = a .left }
+  allowed a = record { below = takes-below t (at .seat) (a .permitted); fits = λ cards. refl; purse-has = λ q h. omega arith; left = a .left }
 
-  pub draw-decides : Shaped t → Sound t → first (drawConditions t (at .seat)) ≡ 0 → Decision t (entry (Draw at) order) (drawEffect t (at .seat))
+  pub draw-decides : Shaped t → Sound t → first (drawConditions t (at .seat) (at .position)) ≡ 0 → Decision t (entry (Draw at) order) (drawEffect t (at .seat))
   draw-decides shaped sound e =
-      let a = draw-accepted t (at .seat) e in
+      let a = draw-accepted t (at .seat) (at .position) e in
       card-decides t (entry (Draw at) order) (at .seat) 0 notEnded shaped sound (a .turn) growing (allowed a)

@@ -28,14 +28,14 @@ use Rattle.decisions_spec.proofs.Decision.{Decision}
 use Rattle.decisions_spec.proofs.Turn.{turn-accepted}
 use Rattle.decisions_spec.proofs.End.{Ends, end-in-turn}
 
-pub even-decides : (t : Table) (at : At) (order : List ℕ) → Shaped t → Sound t → first (evenConditions t (at .seat)) ≡ 0
+pub even-decides : (t : Table) (at : At) (order : List ℕ) → Shaped t → Sound t → first (evenConditions t (at .seat) (at .position)) ≡ 0
     → Decision t (entry (Even at) order) (evenEffect t (at .seat))
 unfolding evenConditions allOf decide soundEnding permitsEven evenOpen natural
 even-decides t at order shaped sound e =
     let h = playedOf (waitingHandOf t (at .seat)) in
-    let (turn, (permitted, _)) = turn-accepted t (at .seat) _ refl e in
+    let (turn, (permitted, _)) = turn-accepted t (at .seat) (at .position) _ refl e in
     let fits : evenOpen (up t) h ≡ true =
     and-eq-true-iff (waits (t .options) (up t) (length (hands (seatAt t (at .seat)))) h) (evenOpen (up t) h) .0 (not-false (mayTake permitsEven t (at .seat)) permitted) .1 in
     let ends : Ends t (entry (Even at) order) (at .seat) (waitingPlaceOf t (at .seat)) byEven =
-    record { guest = record { among = refl; seat-is = refl }; plain = refl; ends-one = refl; decides = λ c. refl; some-code = omega arith; fits = fits; single = λ h. omega arith } in
+    record { deciding = record { among = refl; no-insure = refl; seat-is = refl }; plain = refl; ends-one = refl; decides = λ c. refl; some-code = omega arith; fits = fits; single = λ h. omega arith } in
     end-in-turn t (entry (Even at) order) (at .seat) byEven ends shaped sound turn

@@ -1,103 +1,142 @@
--- An accepted insurance: the amount goes from the purse to the layout, and nothing else changes.
-use mathlib.Core.Path.{_≡_, refl, sym}
-use mathlib.Core.Bool.{true, and-false, true≢false}
-use mathlib.Core.List.{List}
-use Prim.Native.Nat.{ℕ, _≤_}
+-- An accepted insurance: the amount goes from the guest's purse to the layout, and nothing else changes.
+use mathlib.Core.Path.{_≡_, refl, sym, _∙_}
+use mathlib.Core.Bool.{true}
+use mathlib.Core.List.{List, _∷_}
+use Prim.Native.Nat.{ℕ, _+_, _≤_, _<_}
 use native.Mathlib.Omega.{arith}
-use borrow.Author.Tests.{ltb-false, eq-eqb, not-false}
-use Rattle.lists.specs.Sum.{sumOf}
+use borrow.Author.Tests.{ltb-true, ltb-false, leb-false, eq-eqb, not-false}
 use Rattle.lists.specs.Tests.{allOf}
 use Rattle.cards.specs.Card.{isAce}
+use Rattle.options.specs.Permitted.{insurancePermitted}
 use Rattle.call.specs.declared.At.{At}
 use Rattle.call.specs.declared.Call.the-variants.{Insure}
 use Rattle.call.specs.Refusal.{first}
 use Rattle.call.proofs.Refusals.{none-hold}
+use Rattle.history.specs.Entry.{Entry}
 use Rattle.history.specs.Aids.MakeEntry.{entry}
-use Rattle.history.specs.Cards.{callTakes}
-use Rattle.history.specs.Money.{lays, wins}
+use Rattle.history.specs.Money.{lays}
+use Rattle.table.specs.declared.Money.{Money}
 use Rattle.table.specs.declared.Seat.{Seat}
 use Rattle.table.specs.declared.Table.{Table}
 use Rattle.table.specs.Guest.{insuring}
-use Rattle.table.specs.Seat.{withMoney, purse, stake, insurance, hands, prizes}
-use Rattle.table.specs.Table.{seatAt, up}
-use Rattle.options.specs.Permitted.{insurancePermitted}
-use Rattle.table.specs.Shape.{Shaped, ShapedSeat}
-use Rattle.table.specs.Aids.Sound.{Sound}
-use Rattle.table.proofs.SeatHands.{laid-playing}
-use Rattle.agreement.proofs.Events.{no-event}
-use Rattle.answer.specs.Conditions.{seatConditions}
+use Rattle.table.specs.Seat.{withMoney, withGuest, purse, stake, insurance, isStaked, laid, prizes}
+use Rattle.table.specs.Table.{seatAt, guestOf, isDealt, up}
+use Rattle.table.specs.Shape.{Shaped}
+use Rattle.table.specs.Aids.Sound.{Sound, SoundGuest}
+use Rattle.table.proofs.SeatHands.{laid-playing, guest-laid, guest-prizes}
+use Rattle.table.proofs.SeatChange.{change-shaped, change-sound}
+use Rattle.table.proofs.GuestChange.{GuestChange, guest-change}
+use Rattle.agreement.specs.Aids.Agrees.{Good}
+use Rattle.agreement.proofs.Quiet.{sides-stay}
+use Rattle.agreement.proofs.OneGuest.{one-guest}
+use Rattle.answer.specs.Conditions.{seatConditions, guestConditions}
 use Rattle.decisions_spec.specs.Insure.{insureConditions, insureEffect}
 use Rattle.decisions_spec.proofs.Acting.{Acting, acting, Staked, staked-seat}
-use Rattle.decisions_spec.proofs.Decision.{Decided, Decision, draws-none}
 
 -- what its conditions give
-pub record InsureAccepted (t : Table) (j n : ℕ) : Type 0 where
+pub record InsureAccepted (t : Table) (j p n : ℕ) : Type 0 where
   pub acting : Acting t j
-  pub none-yet : insurance (seatAt t j) ≡ 0
+  pub position : p < 3
+  pub staked : 0 < stake (guestOf t j p)
+  pub none-yet : insurance (guestOf t j p) ≡ 0
   pub ace : isAce (up t) ≡ true
-  pub permitted : insurancePermitted (t .options) (stake (seatAt t j)) n ≡ true
-  pub enough : n ≤ purse (seatAt t j)
+  pub permitted : insurancePermitted (t .options) (stake (guestOf t j p)) n ≡ true
+  pub enough : n ≤ purse (guestOf t j p)
 
-pub insure-accepted : (t : Table) (j n : ℕ) → first (insureConditions t j n) ≡ 0 → InsureAccepted t j n
-unfolding insureConditions seatConditions allOf
-insure-accepted t j n e =
-    let s = seatAt t j in
-    let (unbroken, (in-round, (such-seat, (insured, (staked, (decided, (ace, (none, (permitted, (enough, _)))))))))) = none-hold (insureConditions t j n) refl e in
+pub insure-accepted : (t : Table) (j p n : ℕ) → first (insureConditions t j p n) ≡ 0 → InsureAccepted t j p n
+unfolding insureConditions guestConditions seatConditions allOf
+insure-accepted t j p n e =
+    let g = guestOf t j p in
+    let (unbroken, (in-round, (such-seat, (such-position, (insured, (staked, (decided, (ace, (none, (permitted, (enough, _))))))))))) = none-hold (insureConditions t j p n) refl e in
     record {
-      acting = acting t j unbroken in-round such-seat staked;
-      none-yet = omega (arith, ltb-false 0 (insurance s) insured);
+      acting = acting t j p unbroken in-round such-seat such-position staked;
+      position = leb-false 3 p such-position;
+      staked = ltb-true 0 (stake g) (not-false (isStaked g) staked);
+      none-yet = omega (arith, ltb-false 0 (insurance g) insured);
       ace = not-false (isAce (up t)) ace;
-      permitted = not-false (insurancePermitted (t .options) (stake s) n) permitted;
-      enough = ltb-false (purse s) n enough;
+      permitted = not-false (insurancePermitted (t .options) (stake g) n) permitted;
+      enough = ltb-false (purse g) n enough;
     }
 
--- the seat after it
-abbrev insured-seat : Table → ℕ → ℕ → Seat
-insured-seat t j n = withMoney (seatAt t j) (insuring (seatAt t j .money) n)
+module _ (t : Table) (j p n : ℕ) (shaped : Shaped t) (sound : Sound t) (a : InsureAccepted t j p n) where
+  abbrev g : Seat
+  g = guestOf t j p
 
-module _ (t : Table) (at : At) (n : ℕ) (order : List ℕ) (sound : Sound t) (a : InsureAccepted t (at .seat) n) where
-  decided : Staked t (at .seat) → Decided t (entry (Insure at n) order) (at .seat) (t .tray) (insured-seat t (at .seat) n) (t .shoe) 0 n 0
-  unfolding lays wins callTakes sumOf prizes
-  decided seat =
-      let shaped : ShapedSeat (insured-seat t (at .seat) n) = record { four-places = seat .shaped .four-places; four-sides = seat .shaped .four-sides; three-first = seat .shaped .three-first; twenty-cards = seat .shaped .twenty-cards } in
+  -- the guest's money after it, and the guest as if alone at the seat
+  abbrev m : Money
+  m = insuring (g .money) n
+
+  abbrev alone : Seat
+  alone = withMoney (seatAt t j) m
+
+  seat : Staked t j
+  seat = staked-seat t shaped sound j (a .acting)
+
+  was : SoundGuest (t .options) (isDealt t) (up t) j g
+  was = sound .seats j (a .acting .nine) .guests p (a .position)
+
+  laid-more : laid alone ≡ laid g + n
+  laid-more =
+      omega (
+        arith,
+        laid-playing alone (seat .shaped .four-places) (seat .some),
+        guest-laid (seatAt t j) p (seat .shaped .four-places) (seat .some),
+        a .none-yet,
+      )
+
+  same-prizes : prizes (t .options) alone ≡ prizes (t .options) g
+  unfolding prizes
+  same-prizes = sym (guest-prizes (t .options) (seatAt t j) p)
+
+  insure-change : GuestChange t j p m 0 0
+  insure-change =
       record {
-        guest = record { among = refl; seat-is = refl };
-        acting = a .acting;
-        shaped-seat = shaped;
-        same-stake = refl;
-        same-sides = refl;
-        insured = λ some. record { in-round = a .acting .dealt; ace-up = a .ace; staked = a .acting .staked; permitted = a .permitted };
-        has-hands = seat .some;
-        playing = record { in-round = seat .playing .in-round; staked = a .acting .staked; within = seat .playing .within; each = seat .playing .each };
-        insurance-is = refl;
-        turn-is = λ decides. absurd (true≢false (sym decides));
-        hands-are = λ c agree. refl;
-        first-is = λ c agree. refl;
-        events = no-event (entry (Insure at n) order) (hands (seatAt t (at .seat))) refl;
-        lays-it = simp (eq-eqb (at .seat) (at .seat) refl);
-        wins-it = λ c agree. simp and-false;
-        laid-grows = omega (arith, laid-playing (insured-seat t (at .seat) n) shaped (seat .some), laid-playing (seatAt t (at .seat)) (seat .shaped) (seat .some), a .none-yet);
-        prizes-grow = omega arith;
-        purse-pays = omega (arith, a .enough);
-        tray-pays = omega arith;
-        draws = draws-none t sound;
-        takes = λ staked c. refl;
-        cards-moved = λ w. omega arith;
+        within = a .acting .within;
+        position = a .position;
+        as-many = seat .shaped .four-sides p (a .position);
+        sound-guest =
+            record {
+              beyond = λ h. absurd (omega (arith, a .acting .within));
+              stake-fits = was .stake-fits;
+              insured = λ some. record { in-round = a .acting .dealt; ace-up = a .ace; staked = a .staked; permitted = a .permitted };
+              sides-fit = was .sides-fit;
+              prizes-back = omega (arith, same-prizes, laid-more, a .enough, was .prizes-back);
+            };
+        grows = omega arith;
+        same-stake = λ dealt. refl;
+        seated-stakes = λ beside. sound .seats j (a .acting .nine) .seated-first p (a .position);
+        same-cover = λ dealt. refl;
+        same-prizes = λ dealt. same-prizes;
+        paid = omega (arith, laid-more, a .enough);
+        in-limit = omega (arith, sound .money);
       }
 
-pub insure-decides : (t : Table) (at : At) (n : ℕ) (order : List ℕ) → Shaped t → Sound t → first (insureConditions t (at .seat) n) ≡ 0
-    → Decision t (entry (Insure at n) order) (insureEffect t (at .seat) n)
+pub insure-kept : (t : Table) (j p n : ℕ) → Shaped t → Sound t → first (insureConditions t j p n) ≡ 0 → Shaped (insureEffect t j p n) × Sound (insureEffect t j p n)
 unfolding insureEffect
-insure-decides t at n order shaped sound e =
-    let a = insure-accepted t (at .seat) n e in
-    record {
-      j = at .seat;
-      tray = t .tray;
-      seat = insured-seat t (at .seat) n;
-      shoe = t .shoe;
-      k = 0;
-      more = n;
-      won = 0;
-      is = refl;
-      decided = decided t at n order sound a (staked-seat t shaped sound (at .seat) (a .acting));
-    }
+insure-kept t j p n shaped sound e =
+    let s = withGuest (seatAt t j) p (insuring (guestOf t j p .money) n) in
+    let moves = guest-change t j p (insuring (guestOf t j p .money) n) 0 0 shaped sound (insure-change t j p n shaped sound (insure-accepted t j p n e)) in
+    (change-shaped t j (t .tray) s (t .shoe) 0 0 0 shaped sound moves, change-sound t j (t .tray) s (t .shoe) 0 0 0 shaped sound moves)
+
+pub insure-good : (opening : List ℕ) (es : List Entry) (t : Table) (at : At) (n : ℕ) (order : List ℕ) → Good opening es t → first (insureConditions t (at .seat) (at .position) n) ≡ 0
+    → Good opening (entry (Insure at n) order ∷ es) (insureEffect t (at .seat) (at .position) n)
+unfolding insureEffect lays
+insure-good opening es t at n order good e =
+    let j = at .seat in
+    let p = at .position in
+    let a = insure-accepted t j p n e in
+    let agrees = good .agrees .seats j .guests p in
+    let seat-itself = eq-eqb j j refl in
+    let itself = eq-eqb p p refl in
+    one-guest opening es t (entry (Insure at n) order) j p (insuring (guestOf t j p .money) n) 0 0 good (insure-change t j p n (good .shaped) (good .sound) a)
+    (record {
+      of-money =
+          record { seat-is = refl; position-is = refl; not-fill = refl; not-credit = refl; not-load = refl; not-deal = refl; not-decision = refl; not-end = refl };
+      stake-is = agrees .stake-is;
+      insurance-is = simp (seat-itself, itself);
+      sides-are = λ k h. agrees .sides-are k h ∙ sym (sides-stay es j p (entry (Insure at n) order) refl refl k h);
+      lays-more = simp (seat-itself, itself) (laid-more t j p n (good .shaped) (good .sound) a);
+      same-prizes = same-prizes t j p n (good .shaped) (good .sound) a;
+      buys = refl;
+      cashes = refl;
+    })

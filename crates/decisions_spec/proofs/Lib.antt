@@ -1,8 +1,9 @@
--- Each accepted insurance and decision keeps a sound table sound, and a table that agrees with a history in agreement: `Decision` says what that
--- takes, and each call has a file with what its acceptance gives and the lemma that it is such a decision.
+-- Each accepted insurance and decision keeps a sound table sound, and a table that agrees with a history in agreement: `Decision` says what that takes of a decision,
+-- and each has a file with what its acceptance gives and the lemma that it is such a decision. An insurance changes one guest's money.
 pub mod Acting
-pub mod Decision
 pub mod Insure
+pub mod Decision
+pub mod Paying
 -- The decisions in turn and surrender, which put other hands in their places.
 pub mod Turn
 pub mod HandChange

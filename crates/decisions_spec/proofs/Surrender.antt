@@ -27,7 +27,7 @@ use Rattle.table.specs.Broken.{soundSurrender, soundEnding}
 use Rattle.table.specs.Shape.{Shaped}
 use Rattle.table.specs.Aids.Sound.{Sound}
 use Rattle.table.proofs.SeatHands.{how-many, hand-is}
-use Rattle.answer.specs.Conditions.{seatConditions}
+use Rattle.answer.specs.Conditions.{seatConditions, guestConditions}
 use Rattle.table.specs.Progress.{anyDrew}
 use Rattle.decisions_spec.specs.Place.{placeOf, endedBy}
 use Rattle.decisions_spec.specs.Turn.{waitingPlaceOf}
@@ -43,11 +43,11 @@ pub record SurrenderAccepted (t : Table) (j : ℕ) : Type 0 where
   pub waits : seatWaits (t .options) (up t) (hands (seatAt t j)) ≡ true
   pub no-ace : isAce (up t) ≡ false
 
-pub surrender-accepted : (t : Table) (j : ℕ) → first (surrenderConditions t j) ≡ 0 → SurrenderAccepted t j
-unfolding surrenderConditions seatConditions allOf
-surrender-accepted t j e =
-    let (unbroken, (in-round, (such-seat, (staked, (early, (waits, (no-ace, _))))))) = none-hold (surrenderConditions t j) refl e in
-    record { acting = acting t j unbroken in-round such-seat staked; early = early; waits = not-false (seatWaits (t .options) (up t) (hands (seatAt t j))) waits; no-ace = no-ace }
+pub surrender-accepted : (t : Table) (j p : ℕ) → first (surrenderConditions t j p) ≡ 0 → SurrenderAccepted t j
+unfolding surrenderConditions guestConditions seatConditions allOf
+surrender-accepted t j p e =
+    let (unbroken, (in-round, (such-seat, (such-position, (staked, (_, (early, (waits, (no-ace, _))))))))) = none-hold (surrenderConditions t j p) refl e in
+    record { acting = acting t j p unbroken in-round such-seat such-position staked; early = early; waits = not-false (seatWaits (t .options) (up t) (hands (seatAt t j))) waits; no-ace = no-ace }
 
 -- the seat has not split, drawn or doubled
 module _ (t : Table) (j : ℕ) (shaped : Shaped t) (nine : j < 9) (none : anyDrew t ≡ false) where
@@ -82,12 +82,12 @@ surrendered t j shaped a w =
     let one : s .hands .many ≡ 1 = omega (arith, not-split t j shaped (a .acting .nine) (a .early), how-many s 0 (w .seat .shaped) (w .seat .few) (w .here), w .seat .some) in
     simp (eq-eqb (s .hands .many) 1 one, two-cards t j shaped (a .acting .nine) (a .early) 0 w, a .no-ace)
 
-pub surrender-decides : (t : Table) (at : At) (order : List ℕ) → Shaped t → Sound t → first (surrenderConditions t (at .seat)) ≡ 0
+pub surrender-decides : (t : Table) (at : At) (order : List ℕ) → Shaped t → Sound t → first (surrenderConditions t (at .seat) (at .position)) ≡ 0
     → Decision t (entry (Surrender at) order) (surrenderEffect t (at .seat))
 unfolding surrenderEffect surrenders
 surrender-decides t at order shaped sound e =
-    let a = surrender-accepted t (at .seat) e in
+    let a = surrender-accepted t (at .seat) (at .position) e in
     let w = first-waiting t (at .seat) shaped sound a in
     let ends : Ends t (entry (Surrender at) order) (at .seat) 0 bySurrender =
-    record { guest = record { among = refl; seat-is = refl }; plain = refl; ends-one = refl; decides = λ c. refl; some-code = omega arith; fits = surrendered t (at .seat) shaped a w; single = λ h. omega arith } in
-    end-decides t (entry (Surrender at) order) (at .seat) 0 bySurrender ends shaped sound (λ in-turn. absurd (true≢false in-turn)) w
+    record { deciding = record { among = refl; no-insure = refl; seat-is = refl }; plain = refl; ends-one = refl; decides = λ c. refl; some-code = omega arith; fits = surrendered t (at .seat) shaped a w; single = λ h. omega arith } in
+    end-decides t (entry (Surrender at) order) (at .seat) 0 bySurrender ends sound (λ in-turn. absurd (true≢false in-turn)) w

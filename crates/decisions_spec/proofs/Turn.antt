@@ -24,7 +24,7 @@ use Rattle.history.specs.Entry.{Entry}
 use Rattle.history.specs.Cards.{cardsOfHistory}
 use Rattle.history.specs.Hands.{turnIn, handsIn}
 use Rattle.agreement.specs.Aids.Agrees.{Agrees}
-use Rattle.answer.specs.Conditions.{seatConditions}
+use Rattle.answer.specs.Conditions.{seatConditions, guestConditions}
 use Rattle.decisions_spec.specs.Turn.{turnConditions, waitingPlaceOf}
 use Rattle.decisions_spec.proofs.Acting.{Acting, acting, Waiting, seat-waiting}
 
@@ -51,11 +51,11 @@ turn-waits t j staked turn =
     ∙ first-passes test (seatsHands t) (hands missingSeat) inside
 
 -- `rest`: what the call asks behind the conditions in turn, of which none holds either
-pub turn-accepted : (t : Table) (j : ℕ) (rest : List Condition) → allOf (λ c. ltb 0 (c .0)) rest ≡ true → first (turnConditions t j ++ rest) ≡ 0 → TurnAccepted t j × NoneHold rest
-unfolding turnConditions seatConditions allOf
-turn-accepted t j rest numbers e =
-    let (unbroken, (in-round, (such-seat, (staked, (in-turn, behind))))) = none-hold (turnConditions t j ++ rest) numbers e in
-    let act = acting t j unbroken in-round such-seat staked in
+pub turn-accepted : (t : Table) (j p : ℕ) (rest : List Condition) → allOf (λ c. ltb 0 (c .0)) rest ≡ true → first (turnConditions t j p ++ rest) ≡ 0 → TurnAccepted t j × NoneHold rest
+unfolding turnConditions guestConditions seatConditions allOf
+turn-accepted t j p rest numbers e =
+    let (unbroken, (in-round, (such-seat, (such-position, (staked, (in-turn, (_, behind))))))) = none-hold (turnConditions t j p ++ rest) numbers e in
+    let act = acting t j p unbroken in-round such-seat such-position staked in
     let turn = eqb-true (turnSeat (t .options) (up t) (seatsHands t)) j (not-false (eqb (turnSeat (t .options) (up t) (seatsHands t)) j) in-turn) in
     (record { acting = act; turn = turn; waits = turn-waits t j (act .staked) turn }, behind)
 

@@ -11,8 +11,8 @@ use Rattle.table.specs.Table.{cardsLeft}
 use Rattle.decisions_spec.specs.Turn.{turnConditions, mayTake}
 use Rattle.decisions_spec.specs.Card.{cardEffect}
 
-unfoldable pub drawConditions : Table → ℕ → List Condition
-drawConditions t j = turnConditions t j ++ (13, not (mayTake permitsDraw t j)) ∷ (18, ltb (cardsLeft t) 1) ∷ []
+unfoldable pub drawConditions : Table → ℕ → ℕ → List Condition
+drawConditions t j p = turnConditions t j p ++ (13, not (mayTake permitsDraw t j)) ∷ (18, ltb (cardsLeft t) 1) ∷ []
 
 abbrev pub drawEffect : Table → ℕ → Table
 drawEffect t j = cardEffect 0 notEnded t j

@@ -9,8 +9,8 @@ use Rattle.rules.specs.Leaving.{permitsEven}
 use Rattle.table.specs.declared.Table.{Table}
 use Rattle.decisions_spec.specs.Turn.{turnConditions, mayTake, endEffect}
 
-unfoldable pub evenConditions : Table → ℕ → List Condition
-evenConditions t j = turnConditions t j ++ (13, not (mayTake permitsEven t j)) ∷ []
+unfoldable pub evenConditions : Table → ℕ → ℕ → List Condition
+evenConditions t j p = turnConditions t j p ++ (13, not (mayTake permitsEven t j)) ∷ []
 
 abbrev pub evenEffect : Table → ℕ → Table
 evenEffect t j = endEffect byEven t j

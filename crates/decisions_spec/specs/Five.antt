@@ -9,8 +9,8 @@ use Rattle.rules.specs.Leaving.{permitsFive}
 use Rattle.table.specs.declared.Table.{Table}
 use Rattle.decisions_spec.specs.Turn.{turnConditions, mayTake, endEffect}
 
-unfoldable pub fiveConditions : Table → ℕ → List Condition
-fiveConditions t j = turnConditions t j ++ (13, not (mayTake permitsFive t j)) ∷ []
+unfoldable pub fiveConditions : Table → ℕ → ℕ → List Condition
+fiveConditions t j p = turnConditions t j p ++ (13, not (mayTake permitsFive t j)) ∷ []
 
 abbrev pub fiveEffect : Table → ℕ → Table
 fiveEffect t j = endEffect byFive t j

@@ -9,7 +9,7 @@ abbrev pub placeOf : Seat → ℕ → SeatHand
 placeOf s p = getD (s .hands .places) p missingPlace
 
 abbrev pub withPlace : Seat → ℕ → SeatHand → Seat
-withPlace s p h = makeSeat (s .money) (record { places = set (s .hands .places) p h; many = s .hands .many }) (s .first)
+withPlace s p h = makeSeat (s .money) (s .others) (record { places = set (s .hands .places) p h; many = s .hands .many }) (s .first)
 
 -- The hand, ended by this decision.
 abbrev pub endedBy : SeatHand → ℕ → SeatHand

@@ -11,22 +11,23 @@ use Rattle.cards.specs.Hand.{cardsOf, emptyHand, withCard}
 use Rattle.cards.specs.Pair.{isPair}
 use Rattle.rules.specs.declared.seat_hand.SeatHand.{SeatHand}
 use Rattle.rules.specs.SeatHand.{split, splitAces, notEnded}
+use Rattle.table.specs.declared.Money.{Money}
 use Rattle.table.specs.declared.Seat.{Seat}
 use Rattle.table.specs.declared.Table.{Table}
 use Rattle.table.specs.Guest.{withPurse}
-use Rattle.table.specs.Seat.{makeSeat, purse, stake, hands}
+use Rattle.table.specs.Seat.{makeSeat, mapGuests, hands}
 use Rattle.table.specs.Shoe.{withDrawn}
 use Rattle.table.specs.Table.{makeTable, seatAt, cardsLeft}
 use Rattle.decisions_spec.specs.Turn.{turnConditions, waitingPlaceOf, waitingHandOf}
-use Rattle.decisions_spec.specs.Card.{cardAhead}
+use Rattle.decisions_spec.specs.Card.{cardAhead, purseShort}
 
 -- 19 no pair: different ranks, or not exactly two cards; 20 the seat has all its hands (request 2.5, both in the place of 13).
-unfoldable pub splitConditions : Table → ℕ → List Condition
-splitConditions t j =
-    turnConditions t j
+unfoldable pub splitConditions : Table → ℕ → ℕ → List Condition
+splitConditions t j p =
+    turnConditions t j p
     ++ (19, not (isPair (cardsOf (waitingHandOf t j .hand))))
     ∷ (20, leb (t .options .hands) (length (hands (seatAt t j))))
-    ∷ (15, ltb (purse (seatAt t j)) (stake (seatAt t j)))
+    ∷ (15, purseShort (seatAt t j))
     ∷ (18, ltb (cardsLeft t) 2)
     ∷ []
 
@@ -47,14 +48,18 @@ splitPlaces places p parent new = take 4 (take p places ++ parent ∷ new ∷ dr
 abbrev pub splitFirst : Seat → ℕ → List ℕ
 splitFirst s card = cond (eqb (s .hands .many) 1) (set (s .first) 2 card) (s .first)
 
+-- A guest's money with the stake laid again.
+abbrev pub stakedAgain : Money → Money
+stakedAgain m = withPurse m (m .purse - m .stake)
+
 unfoldable pub splitEffect : Table → ℕ → Table
 splitEffect t j =
-    let s = seatAt t j in
+    let s = mapGuests stakedAgain (seatAt t j) in
     let parent = splitHand (pairCardOf t j 0) (cardAhead t 0) in
     let new = splitHand (pairCardOf t j 1) (cardAhead t 1) in
     makeTable (t .options) (t .tray)
     (set (t .seats) j
-    (makeSeat (withPurse (s .money) (purse s - stake s))
+    (makeSeat (s .money) (s .others)
     (record { places = splitPlaces (s .hands .places) (waitingPlaceOf t j) parent new; many = s .hands .many + 1 })
     (splitFirst s (cardAhead t 0))))
     (t .bank) (withDrawn (t .shoe) 2)

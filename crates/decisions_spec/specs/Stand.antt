@@ -7,8 +7,8 @@ use Rattle.rules.specs.SeatHand.{byStand}
 use Rattle.table.specs.declared.Table.{Table}
 use Rattle.decisions_spec.specs.Turn.{turnConditions, endEffect}
 
-abbrev pub standConditions : Table → ℕ → List Condition
-standConditions t j = turnConditions t j
+abbrev pub standConditions : Table → ℕ → ℕ → List Condition
+standConditions t j p = turnConditions t j p
 
 abbrev pub standEffect : Table → ℕ → Table
 standEffect t j = endEffect byStand t j

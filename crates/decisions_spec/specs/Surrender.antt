@@ -12,13 +12,14 @@ use Rattle.table.specs.Seat.{hands}
 use Rattle.table.specs.Table.{withSeat, seatAt, up}
 use Rattle.decisions_spec.specs.Place.{placeOf, withPlace, endedBy}
 use Rattle.table.specs.Progress.{anyDrew}
-use Rattle.answer.specs.Conditions.{inRound, seatConditions, noStake}
+use Rattle.answer.specs.Conditions.{inRound, guestConditions, noStake, notDeciding}
 
 -- 12 comes from lateness or from a hand that does not wait; nobody has split then, so the seat has one hand.
-unfoldable pub surrenderConditions : Table → ℕ → List Condition
-surrenderConditions t j =
-    seatConditions (inRound t) t j
-    ++ noStake t j
+unfoldable pub surrenderConditions : Table → ℕ → ℕ → List Condition
+surrenderConditions t j p =
+    guestConditions (inRound t) t j p
+    ++ noStake t j p
+    ∷ notDeciding t j p
     ∷ (12, anyDrew t)
     ∷ (12, not (seatWaits (t .options) (up t) (hands (seatAt t j))))
     ∷ (13, isAce (up t))

@@ -14,11 +14,11 @@ use Rattle.table.specs.declared.Table.{Table}
 use Rattle.table.specs.Seat.{hands}
 use Rattle.table.specs.Table.{withSeat, seatAt, seatsHands, up}
 use Rattle.decisions_spec.specs.Place.{placeOf, withPlace, endedBy}
-use Rattle.answer.specs.Conditions.{inRound, seatConditions, noStake}
+use Rattle.answer.specs.Conditions.{inRound, guestConditions, noStake, notDeciding}
 
--- 11 not that seat's turn, also where no hand on the table waits.
-unfoldable pub turnConditions : Table → ℕ → List Condition
-turnConditions t j = seatConditions (inRound t) t j ++ noStake t j ∷ (11, not (eqb (turnSeat (t .options) (up t) (seatsHands t)) j)) ∷ []
+-- 11 not that seat's turn, also where no hand on the table waits; 23 not the deciding guest (request 2.8).
+unfoldable pub turnConditions : Table → ℕ → ℕ → List Condition
+turnConditions t j p = guestConditions (inRound t) t j p ++ noStake t j p ∷ (11, not (eqb (turnSeat (t .options) (up t) (seatsHands t)) j)) ∷ notDeciding t j p ∷ []
 
 -- The place of the seat's first waiting hand, and that hand.
 abbrev pub waitingPlaceOf : Table → ℕ → ℕ

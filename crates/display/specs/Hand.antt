@@ -13,7 +13,7 @@ use Rattle.payment.specs.Wager.{wager}
 use Rattle.table.specs.declared.Seat.{Seat}
 use Rattle.table.specs.declared.Table.{Table}
 use Rattle.table.specs.Seat.{missingPlace, stake, hands}
-use Rattle.display.specs.Seat.{seatOrEmpty}
+use Rattle.display.specs.Seat.{guestOrEmpty}
 use Rattle.display.specs.declared.hand.HandShown.{HandShown}
 
 -- A hand's cards, their total and whether it is soft (request 2.1), its wager, where it comes from and how it ended.
@@ -31,5 +31,6 @@ handValues stake h = makeHandShown (h .hand) (handScore (cardsOf (h .hand))) (wa
 unfoldable pub placeShown : Seat → ℕ → HandShown
 placeShown s p = cond (leb (length (hands s)) p) noHandShown (handValues (stake s) (getD (s .hands .places) p missingPlace))
 
-unfoldable pub handShown : Table → ℕ → ℕ → HandShown
-handShown t i p = placeShown (seatOrEmpty t i) p
+-- With the wager of the guest in position q of the seat (request 2.8).
+unfoldable pub handShown : Table → ℕ → ℕ → ℕ → HandShown
+handShown t i q p = placeShown (guestOrEmpty t i q) p

@@ -12,8 +12,8 @@ use Rattle.display.specs.Hand.{handShown}
 pub record ShowsSame (t u : Table) : Type 0 where
   pub table : tableShown t ≡ tableShown u
   pub turn : turnShown t ≡ turnShown u
-  pub seat : (i : ℕ) → seatShown t i ≡ seatShown u i
-  pub hand : (i p : ℕ) → handShown t i p ≡ handShown u i p
+  pub seat : (i q : ℕ) → seatShown t i q ≡ seatShown u i q
+  pub hand : (i q p : ℕ) → handShown t i q p ≡ handShown u i q p
 
 -- Both tables are broken, or neither is.
 abbrev pub HiddenUnshown : Table → Table → Type 0

@@ -6,7 +6,8 @@ use Rattle.cards.specs.Hand.{emptyHand, withCard}
 use Rattle.options.specs.declared.Options.{Options}
 use Rattle.options.specs.Ranges.{noOptions}
 use Rattle.table.specs.declared.Table.{Table}
-use Rattle.table.specs.Table.{isDealt, up, cardsLeft}
+use Rattle.table.specs.Seat.{decider}
+use Rattle.table.specs.Table.{seatAt, isDealt, up, cardsLeft}
 use Rattle.table.specs.Money.{layout, purses}
 use Rattle.table.specs.Broken.{broken}
 use Rattle.state.specs.Turn.{seatInTurn, anyWaits}
@@ -32,12 +33,12 @@ tableShown t =
     cond (broken t) noTableShown
     (makeShown (t .options) (t .tray) (layout t) (purses t) (cardsLeft t) (t .shoe .discarded) (bankShown t))
 
--- Whose turn it is, by seat and place, or that it is nobody's.
-abbrev pub makeTurn : Bool → ℕ → ℕ → TurnShown
-makeTurn somebody seat place = record { somebody = somebody; seat = seat; place = place }
+-- Whose turn it is, by seat and place, with the position of the guest who decides (request 2.8), or that it is nobody's.
+abbrev pub makeTurn : Bool → ℕ → ℕ → ℕ → TurnShown
+makeTurn somebody seat place position = record { somebody = somebody; seat = seat; place = place; position = position }
 
 abbrev pub nobodysTurn : TurnShown
-nobodysTurn = makeTurn false 0 0
+nobodysTurn = makeTurn false 0 0 0
 
 unfoldable pub turnShown : Table → TurnShown
-turnShown t = cond (broken t || not (anyWaits t)) nobodysTurn (makeTurn true (seatInTurn t) (placeInTurn t))
+turnShown t = cond (broken t || not (anyWaits t)) nobodysTurn (makeTurn true (seatInTurn t) (placeInTurn t) (decider (t .options) (seatAt t (seatInTurn t))))

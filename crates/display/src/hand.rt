@@ -1,7 +1,7 @@
 // What a display reads of a hand in its place. A broken table, a seat beyond the option and a place with no hand show nothing.
 ghost use mathlib.Core.Path.{_≡_};
 ghost use Rattle.display.specs.Hand.{noHandShown, handValues, placeShown, handShown};
-use crate::seat::seat_or_empty;
+use crate::seat::guest_or_empty;
 use cards::hand::Hand;
 use cards::hand::empty_hand;
 use cards::score::hand_score;
@@ -64,8 +64,9 @@ fn shown_place(s: Seat, place: usize) -> HandShown
     hand_values(money.stake, h)
 }
 
-pub fn shown_hand(t: Table, seat: u8, place: usize) -> HandShown
-    ensures { λ r. ⌜ r ≡ handShown t seat place ⌝ }
+// With the wager of the guest in that position.
+pub fn shown_hand(t: Table, seat: u8, position: u8, place: usize) -> HandShown
+    ensures { λ r. ⌜ r ≡ handShown t seat position place ⌝ }
 {
-    shown_place(seat_or_empty(t, seat), place)
+    shown_place(guest_or_empty(t, seat, position), place)
 }

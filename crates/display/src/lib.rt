@@ -14,6 +14,8 @@ use state::empty::no_options;
 use state::round::cards_left;
 use state::round::is_dealt;
 use state::round::up;
+use state::seat::decider;
+use state::seat::seat_at;
 use state::turn::place_in_turn;
 use state::turn::seat_in_turn;
 use table::Table;
@@ -29,11 +31,12 @@ pub struct TableShown {
     pub bank: Hand,
 }
 
-// The seat and place whose turn it is; both 0 where it is nobody's.
+// The seat and place whose turn it is, and the position of the guest who decides (request 2.8); all 0 where it is nobody's.
 pub struct TurnShown {
     pub somebody: bool,
     pub seat: usize,
     pub place: usize,
+    pub position: u8,
 }
 
 fn no_table() -> TableShown
@@ -87,6 +90,7 @@ fn nobody() -> TurnShown
         somebody: false,
         seat: 0,
         place: 0,
+        position: 0,
     }
 }
 
@@ -104,5 +108,6 @@ pub fn shown_turn(t: Table) -> TurnShown
         somebody: true,
         seat,
         place: place_in_turn(t),
+        position: decider(t.options, seat_at(t, seat)),
     }
 }

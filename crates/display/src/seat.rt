@@ -1,12 +1,13 @@
-// What a display reads of a seat. A broken table and a seat beyond the option show an empty seat.
+// What a display reads of a guest at a seat. A broken table, a seat beyond the option and a position that there is not show an empty seat.
 ghost use mathlib.Core.Path.{_≡_};
-ghost use Rattle.display.specs.Seat.{seatValues, seatOrEmpty, seatShown};
+ghost use Rattle.display.specs.Seat.{seatValues, guestOrEmpty, seatShown};
 use broken::broken;
 use money::seat_money::laid;
 use money::seat_money::prizes;
 use options::Options;
 use rules::seat_hand::used;
 use state::empty::empty_seat;
+use state::seat::guest_at;
 use state::seat::seat_at;
 use table::Seat;
 use table::Table;
@@ -39,9 +40,9 @@ fn seat_values(o: Options, s: Seat) -> SeatShown
     }
 }
 
-// The seat of that number, or an empty one where the table is broken or has no such seat.
-pub(crate) fn seat_or_empty(t: Table, seat: u8) -> Seat
-    ensures { λ r. ⌜ r ≡ seatOrEmpty t seat ⌝ }
+// The guest in that position of the seat, or an empty seat where the table is broken or has no such seat or position.
+pub(crate) fn guest_or_empty(t: Table, seat: u8, position: u8) -> Seat
+    ensures { λ r. ⌜ r ≡ guestOrEmpty t seat position ⌝ }
 {
     if broken(t) {
         return empty_seat();
@@ -50,12 +51,15 @@ pub(crate) fn seat_or_empty(t: Table, seat: u8) -> Seat
     if o.seats <= seat {
         return empty_seat();
     }
-    seat_at(t, seat as usize)
+    if 3 <= position {
+        return empty_seat();
+    }
+    guest_at(seat_at(t, seat as usize), position)
 }
 
-pub fn shown_seat(t: Table, seat: u8) -> SeatShown
-    ensures { λ r. ⌜ r ≡ seatShown t seat ⌝ }
+pub fn shown_seat(t: Table, seat: u8, position: u8) -> SeatShown
+    ensures { λ r. ⌜ r ≡ seatShown t seat position ⌝ }
 {
     let o = t.options;
-    seat_values(o, seat_or_empty(t, seat))
+    seat_values(o, guest_or_empty(t, seat, position))
 }

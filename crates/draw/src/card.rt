@@ -1,13 +1,18 @@
-// What draw and double share: the next card of the shoe goes to the hand whose turn it is, the seat lays `more`, and a prize is paid in the call that
-// makes it (document 01, "The seventeen calls", the guest, and "Payment").
+// What draw and double share: the next card of the shoe goes to the hand whose turn it is, each guest of the seat lays so many stakes more,
+// and the prizes are paid in the call that makes them (document 01, "The seventeen calls", the guest, and "Payment").
 ghost use mathlib.Core.Path.{_≡_};
 ghost use mathlib.Core.Bool.{true};
+ghost use Prim.Native.Nat.{_≤_};
+ghost use lib.Dec.{ltb};
 ghost use Rattle.rules.specs.Turn.{seatWaits, waitingPlace};
-ghost use Rattle.table.specs.Seat.{hands as handsOf};
+ghost use Rattle.table.specs.Money.{mostMoney};
+ghost use Rattle.table.specs.Seat.{hands as handsOf, overGuests, stake};
 ghost use Rattle.decisions_spec.specs.Place.{placeOf};
-ghost use Rattle.decisions_spec.specs.Card.{cardEffect};
+ghost use Rattle.decisions_spec.specs.Card.{purseShort, cardMoney, cardEffect};
+ghost use Rattle.payment.specs.Prize.{prize as prizeOf};
+ghost use Rattle.rules.specs.SeatHand.{playedOf};
 ghost use Rattle.draw.specs.Aids.Grown.{grownBy, grownSeat};
-ghost use Rattle.draw.specs.Aids.Drawable.{Drawable};
+ghost use Rattle.draw.specs.Aids.Drawable.{Affords, AllAfford, onePrizeEach, Drawable};
 use call::At;
 use cards::hand::with_card;
 use decisions::turn::waiting_hand;
@@ -19,9 +24,10 @@ use rules::turn::waiting_place;
 use shoe::card_ahead;
 use shoe::with_drawn;
 use state::round::up;
+use state::seat::guest_money;
 use state::seat::seat_at;
-use state::seat::with_purse;
 use state::seat::with_seat;
+use table::Money;
 use table::Seat;
 use table::Table;
 
@@ -40,19 +46,63 @@ fn grown(o: Options, card: u8, s: Seat, next: u8, code: u8) -> SeatHand
     }
 }
 
-// The seat with that hand in its place, and another purse.
-fn grown_seat(o: Options, card: u8, s: Seat, h: SeatHand, purse: u64) -> Seat
-    ensures { λ r. ⌜ r ≡ grownSeat o card s h purse ⌝ }
+// Whether a purse is below its guest's stake.
+fn short(m: Money) -> bool
+    ensures { λ r. ⌜ r ≡ ltb (m .purse) (m .stake) ⌝ }
+{
+    m.purse < (m.stake as u64)
+}
+
+// Whether the purse of some guest of the seat is below that guest's own stake.
+pub(crate) fn purse_short(s: Seat) -> bool
+    ensures { λ r. ⌜ r ≡ purseShort s ⌝ }
+{
+    short(guest_money(s, 0)) || (short(guest_money(s, 1)) || short(guest_money(s, 2)))
+}
+
+// A guest's money once the hand has its card: so many more stakes laid, and its prize won.
+fn card_money(o: Options, times: u64, h: SeatHand, m: Money) -> Money
+    requires { ⌜ Affords times m ⌝ }
+    ensures { λ r. ⌜ r ≡ cardMoney o times (playedOf h) m ⌝ }
+{
+    let stake = m.stake as u64;
+    let mut next = m;
+    next.purse = m.purse - times * stake + prize(o, m.stake, h);
+    next
+}
+
+// The prizes of that hand, of all guests of the seat.
+fn all_won(o: Options, s: Seat, h: SeatHand) -> u64
+    requires { ⌜ onePrizeEach s ≤ mostMoney ⌝ }
+    ensures { λ r. ⌜ r ≡ overGuests (λ g. prizeOf o (stake g) (playedOf h)) s ⌝ }
+{
+    let seated = guest_money(s, 0);
+    let one = guest_money(s, 1);
+    let other = guest_money(s, 2);
+    prize(o, seated.stake, h) + prize(o, one.stake, h) + prize(o, other.stake, h)
+}
+
+// The seat with that hand in its place, and its guests' money so changed.
+fn grown_seat(o: Options, card: u8, s: Seat, h: SeatHand, times: u64) -> Seat
+    requires { ⌜ AllAfford times s ⌝ }
+    ensures { λ r. ⌜ r ≡ grownSeat o card s h times ⌝ }
 {
     let hands = s.hands;
     let p = waiting_place(o, card, hands);
-    with_place(with_purse(s, purse), p, h)
+    let seated = card_money(o, times, h, s.money);
+    let one = card_money(o, times, h, s.others[0]);
+    let other = card_money(o, times, h, s.others[1]);
+    let others = [one, other];
+    let mut next = s;
+    next.money = seated;
+    next.others = others;
+    with_place(next, p, h)
 }
 
-// The seat lays `more`, its hand takes the next card and has this code, and the prize of that hand goes from tray to purse.
-pub(crate) fn with_next_card(t: Table, at: At, more: u64, code: u8) -> Table
-    requires { ⌜ Drawable t (at .seat) more ⌝ }
-    ensures { λ r. ⌜ r ≡ cardEffect more code t (at .seat) ⌝ }
+// Each guest of the seat lays so many more stakes, its hand takes the next card and has this code, and the prizes of that hand go from tray to purses.
+pub(crate) fn with_next_card(t: Table, at: At, times: u64, code: u8) -> Table
+    requires { ⌜ Drawable t (at .seat) times ⌝ }
+    ensures { λ r. ⌜ r ≡ cardEffect times code t (at .seat) ⌝ }
 {
     let o = t.options;
     let shoe = t.shoe;
@@ -60,10 +110,9 @@ pub(crate) fn with_next_card(t: Table, at: At, more: u64, code: u8) -> Table
     let j = at.seat as usize;
     let card = up(t);
     let s = seat_at(t, j);
-    let money = s.money;
     let h = grown(o, card, s, card_ahead(&order[..], shoe.drawn, 0), code);
-    let won = prize(o, money.stake, h);
-    let seat = grown_seat(o, card, s, h, money.purse - more + won);
+    let won = all_won(o, s, h);
+    let seat = grown_seat(o, card, s, h, times);
     let rest = with_drawn(shoe, 1);
     let mut next = with_seat(t, j, seat);
     next.tray = t.tray - won;

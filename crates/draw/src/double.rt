@@ -5,6 +5,7 @@ ghost use Rattle.call.specs.Refusal.{first};
 ghost use Rattle.answer.specs.Outcome.{outcome};
 ghost use Rattle.decisions_spec.specs.Double.{doubleConditions, doubleEffect};
 ghost use Rattle.table.specs.Broken.{broken};
+use crate::card::purse_short;
 use crate::card::with_next_card;
 use answer::outcome::Outcome;
 use call::At;
@@ -17,10 +18,10 @@ use state::round::up;
 use state::seat::seat_at;
 use table::Table;
 
-// Behind the conditions in turn: 13 the rules do not permit it to that hand, 15 the purse is below the stake, 18 no card is left.
+// Behind the conditions in turn: 13 the rules do not permit it to that hand, 15 a guest's purse is below the stake, 18 no card is left.
 fn double_number(t: Table, at: At) -> u8
     requires { ⌜ broken t ≡ false ⌝ }
-    ensures { λ r. ⌜ r ≡ first (doubleConditions t (at .seat)) ⌝ }
+    ensures { λ r. ⌜ r ≡ first (doubleConditions t (at .seat) (at .position)) ⌝ }
 {
     let number = turn_number(t, at);
     if number != 0 {
@@ -28,28 +29,24 @@ fn double_number(t: Table, at: At) -> u8
     }
     let o = t.options;
     let s = seat_at(t, at.seat as usize);
-    let money = s.money;
     let permitted = may_take(o, up(t), s, BY_DOUBLE);
-    let stake = money.stake as u64;
     asked(
         13,
         !permitted,
-        asked(15, money.purse < stake, asked(18, cards_left(t) < 1, 0)),
+        asked(15, purse_short(s), asked(18, cards_left(t) < 1, 0)),
     )
 }
 
 pub fn double(t: Table, at: At) -> Outcome
     requires { ⌜ broken t ≡ false ⌝ }
-    ensures { λ r. ⌜ r ≡ outcome (doubleConditions t (at .seat)) (doubleEffect t (at .seat)) t ⌝ }
+    ensures { λ r. ⌜ r ≡ outcome (doubleConditions t (at .seat) (at .position)) (doubleEffect t (at .seat)) t ⌝ }
 {
     let number = double_number(t, at);
     if number != 0 {
         return Outcome { number, table: t };
     }
-    let s = seat_at(t, at.seat as usize);
-    let money = s.money;
     Outcome {
         number,
-        table: with_next_card(t, at, money.stake as u64, BY_DOUBLE),
+        table: with_next_card(t, at, 1, BY_DOUBLE),
     }
 }

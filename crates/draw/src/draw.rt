@@ -20,7 +20,7 @@ use table::Table;
 // Behind the conditions in turn: 13 the rules do not permit it to that hand, 18 no card is left.
 fn draw_number(t: Table, at: At) -> u8
     requires { ⌜ broken t ≡ false ⌝ }
-    ensures { λ r. ⌜ r ≡ first (drawConditions t (at .seat)) ⌝ }
+    ensures { λ r. ⌜ r ≡ first (drawConditions t (at .seat) (at .position)) ⌝ }
 {
     let number = turn_number(t, at);
     if number != 0 {
@@ -34,7 +34,7 @@ fn draw_number(t: Table, at: At) -> u8
 
 pub fn draw(t: Table, at: At) -> Outcome
     requires { ⌜ broken t ≡ false ⌝ }
-    ensures { λ r. ⌜ r ≡ outcome (drawConditions t (at .seat)) (drawEffect t (at .seat)) t ⌝ }
+    ensures { λ r. ⌜ r ≡ outcome (drawConditions t (at .seat) (at .position)) (drawEffect t (at .seat)) t ⌝ }
 {
     let number = draw_number(t, at);
     if number != 0 {

@@ -1,15 +1,16 @@
-// split: the hand whose turn it is, a pair, becomes two, and the stake is laid again for the new one (document 01, "The seventeen calls", the guest;
+// split: the hand whose turn it is, a pair, becomes two, and each guest's stake is laid again for the new one (document 01, "The seventeen calls", the guest;
 // article 16).
 ghost use mathlib.Core.Path.{_≡_};
 ghost use mathlib.Core.Bool.{false};
-ghost use Prim.Native.Nat.{_<_};
+ghost use Prim.Native.Nat.{_<_, _≤_};
 ghost use lib.ListN.{getD};
 ghost use Rattle.cards.specs.Hand.{cardsOf};
 ghost use Rattle.call.specs.Refusal.{first as firstOf};
 ghost use Rattle.answer.specs.Outcome.{outcome};
-ghost use Rattle.decisions_spec.specs.Split.{splitConditions, splitEffect, splitHand, splitPlaces, splitFirst};
+ghost use Rattle.decisions_spec.specs.Split.{splitConditions, splitEffect, splitHand, splitPlaces, splitFirst, stakedAgain};
 ghost use Rattle.draw.specs.Aids.Splits.{splitSeat, Pays, Splits};
 ghost use Rattle.table.specs.Broken.{broken};
+use crate::card::purse_short;
 use answer::outcome::Outcome;
 use call::At;
 use call::refusal::asked;
@@ -33,8 +34,8 @@ use shoe::with_drawn;
 use state::round::cards_left;
 use state::round::up;
 use state::seat::seat_at;
-use state::seat::with_purse;
 use state::seat::with_seat;
+use table::Money;
 use table::Seat;
 use table::Table;
 
@@ -102,13 +103,22 @@ fn first_of(s: Seat, card: u8) -> [u8; 3]
     next
 }
 
-// The seat with the hand whose turn it is split, the stake laid for the new hand.
+// A guest's money with the stake laid again.
+fn staked_again(m: Money) -> Money
+    requires { ⌜ m .stake ≤ m .purse ⌝ }
+    ensures { λ r. ⌜ r ≡ stakedAgain m ⌝ }
+{
+    let mut next = m;
+    next.purse = m.purse - (m.stake as u64);
+    next
+}
+
+// The seat with the hand whose turn it is split, each guest's stake laid for the new hand.
 fn split_seat(o: Options, card: u8, s: Seat, first: u8, second: u8) -> Seat
     requires { ⌜ Pays o card s ⌝ }
     ensures { λ r. ⌜ r ≡ splitSeat o card s first second ⌝ }
 {
     let hands = s.hands;
-    let money = s.money;
     let old = hands.places;
     let p = waiting_place(o, card, hands);
     let h = waiting_hand(o, card, s);
@@ -118,7 +128,13 @@ fn split_seat(o: Options, card: u8, s: Seat, first: u8, second: u8) -> Seat
     let places = split_places(old, p, parent, new);
     let many = hands.many + 1;
     let more = SeatHands { places, many };
-    let mut next = with_purse(s, money.purse - (money.stake as u64));
+    let seated = staked_again(s.money);
+    let one = staked_again(s.others[0]);
+    let other = staked_again(s.others[1]);
+    let others = [one, other];
+    let mut next = s;
+    next.money = seated;
+    next.others = others;
     next.hands = more;
     let kept = first_of(s, first);
     next.first = kept;
@@ -144,10 +160,10 @@ fn split_table(t: Table, at: At) -> Table
     after
 }
 
-// Behind the conditions in turn: 19 no pair, 20 the seat's hands are used up, 15 the purse is below the stake, 18 fewer than two cards are left.
+// Behind the conditions in turn: 19 no pair, 20 the seat's hands are used up, 15 a guest's purse is below the stake, 18 fewer than two cards are left.
 fn split_number(t: Table, at: At) -> u8
     requires { ⌜ broken t ≡ false ⌝ }
-    ensures { λ r. ⌜ r ≡ firstOf (splitConditions t (at .seat)) ⌝ }
+    ensures { λ r. ⌜ r ≡ firstOf (splitConditions t (at .seat) (at .position)) ⌝ }
 {
     let number = turn_number(t, at);
     if number != 0 {
@@ -156,25 +172,23 @@ fn split_number(t: Table, at: At) -> u8
     let o = t.options;
     let s = seat_at(t, at.seat as usize);
     let hands = s.hands;
-    let money = s.money;
     let h = waiting_hand(o, up(t), s);
     let pair = h.hand;
     let most = o.hands as usize;
-    let stake = money.stake as u64;
     asked(
         19,
         !is_pair(pair),
         asked(
             20,
             most <= used(hands),
-            asked(15, money.purse < stake, asked(18, cards_left(t) < 2, 0)),
+            asked(15, purse_short(s), asked(18, cards_left(t) < 2, 0)),
         ),
     )
 }
 
 pub fn split(t: Table, at: At) -> Outcome
     requires { ⌜ broken t ≡ false ⌝ }
-    ensures { λ r. ⌜ r ≡ outcome (splitConditions t (at .seat)) (splitEffect t (at .seat)) t ⌝ }
+    ensures { λ r. ⌜ r ≡ outcome (splitConditions t (at .seat) (at .position)) (splitEffect t (at .seat)) t ⌝ }
 {
     let number = split_number(t, at);
     if number != 0 {

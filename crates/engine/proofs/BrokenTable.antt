@@ -13,7 +13,7 @@ use Rattle.table.specs.Broken.{sound, broken}
 use Rattle.cashier_spec.specs.Opening.{emptyTable}
 use Rattle.cashier_spec.specs.Fill.{fillConditions}
 use Rattle.cashier_spec.specs.Credit.{creditConditions}
-use Rattle.answer.specs.Conditions.{seatConditions}
+use Rattle.answer.specs.Conditions.{seatConditions, guestConditions}
 use Rattle.cashier_spec.specs.Buy.{buyConditions}
 use Rattle.cashier_spec.specs.Cash.{cashConditions}
 use Rattle.cashier_spec.specs.Load.{loadConditions}
@@ -34,7 +34,7 @@ use Rattle.answer.specs.Reply.{replyBy}
 use Rattle.engine.specs.Step.{number, step}
 
 pub broken-one : (t : Table) → broken t ≡ true → (c : Call) (order : List ℕ) → number t c order ≡ 1
-unfolding number first fillConditions creditConditions seatConditions buyConditions cashConditions stakeConditions sideConditions dealConditions insureConditions turnConditions drawConditions doubleConditions splitConditions surrenderConditions evenConditions fiveConditions closeConditions voidConditions loadConditions step replyBy
+unfolding number first fillConditions creditConditions seatConditions guestConditions buyConditions cashConditions stakeConditions sideConditions dealConditions insureConditions turnConditions drawConditions doubleConditions splitConditions surrenderConditions evenConditions fiveConditions closeConditions voidConditions loadConditions step replyBy
 broken-one t b (Fill n) order = simp b
 broken-one t b (Credit n) order = simp b
 broken-one t b (Buy at n) order = simp b

@@ -13,6 +13,7 @@ use Rattle.cards.specs.Natural.{isNatural}
 use Rattle.cards.specs.Pair.{isPair}
 use Rattle.cards.specs.PrizeHand.{allSevens, isPrizeHand}
 use Rattle.options.specs.Device.{bankAtDeal}
+use Rattle.options.specs.Decider.{decidingPosition}
 use Rattle.options.specs.Ranges.{ranges, inRange}
 use Rattle.rules.specs.SeatHand.{natural, hasTwoCards}
 use Rattle.rules.specs.OpenCalls.{evenOpen, fiveOpen}
@@ -24,13 +25,13 @@ use Rattle.payment.specs.HandPay.{handBack, againstBank, againstNatural, byTota
 use Rattle.payment.specs.Insurance.{insurancePay}
 use Rattle.payment.specs.Pays.{insurancePays, sideDue, sidePays, handPays, paysOf}
 use Rattle.payment.specs.Prize.{prize}
-use Rattle.table.specs.Seat.{laid, prizes}
+use Rattle.table.specs.Seat.{guestAt, withGuest, laid, prizes}
 use Rattle.table.specs.Shoe.{validOrder, burnsFirst}
 use Rattle.options.specs.Permitted.{stakePermitted}
-use Rattle.table.specs.Broken.{soundOrigin, soundDouble, soundSurrender, soundEnding, soundHand, soundNumber, soundStake, soundInsurance, soundSides, soundHands, soundPrizes, soundSeat, soundBegun, soundShoe, soundDiscards, soundFaces, soundBank, soundMoney, sound}
+use Rattle.table.specs.Broken.{soundOrigin, soundDouble, soundSurrender, soundEnding, soundHand, soundNumber, soundStake, soundInsurance, soundSides, soundHands, soundPrizes, soundGuest, seatedFirst, soundSeat, soundBegun, soundShoe, soundDiscards, soundFaces, soundBank, soundMoney, sound}
 use Rattle.cashier_spec.specs.Opening.{openConditions, openNumber, opened}
 use Rattle.cashier_spec.specs.Fill.{fillConditions, fillEffect}
-use Rattle.answer.specs.Conditions.{seatConditions}
+use Rattle.answer.specs.Conditions.{seatConditions, guestConditions}
 use Rattle.cashier_spec.specs.Buy.{buyConditions, buyEffect}
 use Rattle.cashier_spec.specs.Stake.{stakeConditions, stakeEffect}
 use Rattle.deal_spec.specs.Burn.{burnAtDeal}
@@ -41,12 +42,12 @@ use Rattle.decisions_spec.specs.Card.{cardEffect}
 use Rattle.decisions_spec.specs.Double.{doubleConditions}
 use Rattle.decisions_spec.specs.Split.{splitConditions, splitEffect}
 use Rattle.close_spec.specs.BankDraw.{bankBurn, bankTakes, bankAtClose, closeTakes}
-use Rattle.close_spec.specs.Close.{closeConditions, seatBack, closeEffect}
+use Rattle.close_spec.specs.Close.{closeConditions, guestBack, closeEffect}
 use Rattle.answer.specs.Reply.{replyBy}
 use Rattle.engine.specs.Step.{number, next, step}
 use Rattle.engine.specs.Session.{at, row, rows}
 use Rattle.engine.specs.FullCover.{threeDecks, sevensFirst, rest, fullOrder, fullCalls, FullCover}
 
 pub full-cover : FullCover
-unfolding threeDecks sevensFirst rest fullOrder at row rows fullCalls sumOf anyOf allOf firstPlace allBelow flat first pointsOf withCard total couldBePlayed isNatural isPair allSevens isPrizeHand bankAtDeal ranges inRange natural hasTwoCards evenOpen fiveOpen isTwoAces acesWait cardsWait waits mustDraw takesCards permitsDouble permitsSplit wager handBack againstBank againstNatural byTotals insurancePay insurancePays sideDue sidePays handPays paysOf prize laid prizes validOrder burnsFirst stakePermitted soundOrigin soundDouble soundSurrender soundEnding soundHand soundNumber soundStake soundInsurance soundSides soundHands soundPrizes soundSeat soundBegun soundShoe soundDiscards soundFaces soundBank soundMoney sound openConditions openNumber opened fillConditions fillEffect seatConditions buyConditions buyEffect stakeConditions stakeEffect burnAtDeal pass dealTakes loadDue dealConditions dealtSeats upCard dealtBank dealEffect turnConditions cardEffect doubleConditions splitConditions splitEffect bankBurn bankTakes bankAtClose closeTakes closeConditions seatBack closeEffect number next step replyBy
+unfolding threeDecks sevensFirst rest fullOrder at row rows fullCalls sumOf anyOf allOf firstPlace allBelow flat first pointsOf withCard total couldBePlayed isNatural isPair allSevens isPrizeHand bankAtDeal decidingPosition ranges inRange natural hasTwoCards evenOpen fiveOpen isTwoAces acesWait cardsWait waits mustDraw takesCards permitsDouble permitsSplit wager handBack againstBank againstNatural byTotals insurancePay insurancePays sideDue sidePays handPays paysOf prize guestAt withGuest laid prizes validOrder burnsFirst stakePermitted soundOrigin soundDouble soundSurrender soundEnding soundHand soundNumber soundStake soundInsurance soundSides soundHands soundPrizes soundGuest seatedFirst soundSeat soundBegun soundShoe soundDiscards soundFaces soundBank soundMoney sound openConditions openNumber opened fillConditions fillEffect seatConditions guestConditions buyConditions buyEffect stakeConditions stakeEffect burnAtDeal pass dealTakes loadDue dealConditions dealtSeats upCard dealtBank dealEffect turnConditions cardEffect doubleConditions splitConditions splitEffect bankBurn bankTakes bankAtClose closeTakes closeConditions guestBack closeEffect number next step replyBy
 full-cover = record { opens = refl; plays = refl }

@@ -14,7 +14,7 @@ use Rattle.call.proofs.Refusals.{first-says, first-stands, accepted-head, accep
 use Rattle.table.specs.declared.Table.{Table}
 use Rattle.cashier_spec.specs.Fill.{fillConditions}
 use Rattle.cashier_spec.specs.Credit.{creditConditions}
-use Rattle.answer.specs.Conditions.{seatConditions}
+use Rattle.answer.specs.Conditions.{seatConditions, guestConditions}
 use Rattle.cashier_spec.specs.Buy.{buyConditions}
 use Rattle.cashier_spec.specs.Cash.{cashConditions}
 use Rattle.cashier_spec.specs.Load.{loadConditions}
@@ -37,7 +37,7 @@ use Rattle.engine.specs.LowestFirst.{inSequence, LowestFirst}
 
 -- no number is 0
 numbers : (t : Table) (c : Call) (order : List ℕ) → allOf (λ c. ltb 0 (c .0)) (conditions t c order) ≡ true
-unfolding allOf fillConditions creditConditions seatConditions buyConditions cashConditions stakeConditions sideConditions dealConditions insureConditions turnConditions drawConditions doubleConditions splitConditions surrenderConditions evenConditions fiveConditions closeConditions voidConditions loadConditions
+unfolding allOf fillConditions creditConditions seatConditions guestConditions buyConditions cashConditions stakeConditions sideConditions dealConditions insureConditions turnConditions drawConditions doubleConditions splitConditions surrenderConditions evenConditions fiveConditions closeConditions voidConditions loadConditions
 numbers t (Fill n) order = refl
 numbers t (Credit n) order = refl
 numbers t (Buy at n) order = refl
@@ -58,7 +58,7 @@ numbers t Load order = refl
 numbers t (Side at k n) order = refl
 
 sequenced : (t : Table) (c : Call) (order : List ℕ) → inSequence 0 (conditions t c order) ≡ true
-unfolding inSequence firstPlace fillConditions creditConditions seatConditions buyConditions cashConditions stakeConditions sideConditions dealConditions insureConditions turnConditions drawConditions doubleConditions splitConditions surrenderConditions evenConditions fiveConditions closeConditions voidConditions loadConditions
+unfolding inSequence firstPlace fillConditions creditConditions seatConditions guestConditions buyConditions cashConditions stakeConditions sideConditions dealConditions insureConditions turnConditions drawConditions doubleConditions splitConditions surrenderConditions evenConditions fiveConditions closeConditions voidConditions loadConditions
 sequenced t (Fill n) order = refl
 sequenced t (Credit n) order = refl
 sequenced t (Buy at n) order = refl

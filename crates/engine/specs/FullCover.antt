@@ -14,7 +14,7 @@ use Rattle.engine.specs.Session.{at, row, rows}
 -- The marked session's options, but for three decks with 30 cards behind the cut.
 unfoldable pub threeDecks : Options
 threeDecks =
-    record { seats = 6; decks = 3; first = 1; later = 0; hands = 4; aces = 0; double = 1; limit = 0; insurance = 1; five = 0; prize = 1; device = 1; cut = 30; smallest = 2; largest = 100 }
+    record { seats = 6; decks = 3; first = 1; later = 0; hands = 4; aces = 0; double = 1; limit = 0; insurance = 1; five = 0; prize = 1; device = 1; decider = 1; cut = 30; smallest = 2; largest = 100 }
 
 -- A two to burn, a six for the bank between the first sevens, the twelve sevens, and two tens for the bank.
 unfoldable pub sevensFirst : List ℕ

@@ -11,9 +11,9 @@ use Rattle.call.specs.Refusal.{Condition, holds, FirstAt}
 use Rattle.table.specs.declared.Table.{Table}
 use Rattle.engine.specs.Step.{conditions, number}
 
--- The paper's sequence of numbers; 21 stands behind 8 (request 2.6), 19 and 20 in the place of 13 (request 2.5).
+-- The paper's sequence of numbers; 21 (request 2.6) and 22 stand behind 8, 23 behind 11 (request 2.8), 19 and 20 in the place of 13 (request 2.5).
 abbrev pub sequence : List ℕ
-sequence = 1 ∷ 2 ∷ 3 ∷ 4 ∷ 5 ∷ 6 ∷ 7 ∷ 8 ∷ 21 ∷ 9 ∷ 10 ∷ 11 ∷ 12 ∷ 13 ∷ 19 ∷ 20 ∷ 14 ∷ 15 ∷ 16 ∷ 17 ∷ 18 ∷ []
+sequence = 1 ∷ 2 ∷ 3 ∷ 4 ∷ 5 ∷ 6 ∷ 7 ∷ 8 ∷ 21 ∷ 22 ∷ 9 ∷ 10 ∷ 11 ∷ 23 ∷ 12 ∷ 13 ∷ 19 ∷ 20 ∷ 14 ∷ 15 ∷ 16 ∷ 17 ∷ 18 ∷ []
 
 -- The place of a number in it.
 abbrev pub placeIn : ℕ → ℕ

@@ -16,10 +16,10 @@ use Rattle.table.specs.Money.{layout, purses}
 use Rattle.cashier_spec.specs.Opening.{openNumber, opened}
 use Rattle.engine.specs.Step.{number, next}
 
--- One deck, six seats, first burn 1, later 0, four hands, aces 0, double 1, limit 0, insurance 1, five 0, prize 1, shoe, cut 0, stakes 2–100.
+-- One deck, six seats, first burn 1, later 0, four hands, aces 0, double 1, limit 0, insurance 1, five 0, prize 1, shoe, the seated guest decides, cut 0, stakes 2–100.
 unfoldable pub house : Options
 house =
-    record { seats = 6; decks = 1; first = 1; later = 0; hands = 4; aces = 0; double = 1; limit = 0; insurance = 1; five = 0; prize = 1; device = 1; cut = 0; smallest = 2; largest = 100 }
+    record { seats = 6; decks = 1; first = 1; later = 0; hands = 4; aces = 0; double = 1; limit = 0; insurance = 1; five = 0; prize = 1; device = 1; decider = 1; cut = 0; smallest = 2; largest = 100 }
 
 -- The faces from n on, k of them, that are not in the list.
 unfoldable pub others : List ℕ → ℕ → ℕ → List ℕ
@@ -33,9 +33,9 @@ marked = 51 ∷ 6 ∷ 5 ∷ 19 ∷ 32 ∷ 9 ∷ 45 ∷ 22 ∷ 3 ∷ []
 unfoldable pub order : List ℕ
 order = marked ++ others marked 0 52
 
--- Seat 2 acts throughout.
+-- Seat 2, its seated guest, acts throughout.
 unfoldable pub at : At
-at = record { seat = 2 }
+at = record { seat = 2; position = 0 }
 
 -- Number, tray, layout, all purses, cards left.
 unfoldable pub row : ℕ → Table → List ℕ

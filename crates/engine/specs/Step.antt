@@ -34,32 +34,32 @@ use Rattle.engine.specs.Scores.{handScores}
 abbrev pub conditions : Table → Call → List ℕ → List Condition
 conditions t (Fill n) order = fillConditions t n
 conditions t (Credit n) order = creditConditions t n
-conditions t (Buy at n) order = buyConditions t (at .seat) n
-conditions t (Cash at n) order = cashConditions t (at .seat) n
-conditions t (Stake at n) order = stakeConditions t (at .seat) n
+conditions t (Buy at n) order = buyConditions t (at .seat) (at .position) n
+conditions t (Cash at n) order = cashConditions t (at .seat) (at .position) n
+conditions t (Stake at n) order = stakeConditions t (at .seat) (at .position) n
 conditions t Deal order = dealConditions t
-conditions t (Insure at n) order = insureConditions t (at .seat) n
-conditions t (Stand at) order = standConditions t (at .seat)
-conditions t (Draw at) order = drawConditions t (at .seat)
-conditions t (Double at) order = doubleConditions t (at .seat)
-conditions t (Split at) order = splitConditions t (at .seat)
-conditions t (Surrender at) order = surrenderConditions t (at .seat)
-conditions t (Even at) order = evenConditions t (at .seat)
-conditions t (Five at) order = fiveConditions t (at .seat)
+conditions t (Insure at n) order = insureConditions t (at .seat) (at .position) n
+conditions t (Stand at) order = standConditions t (at .seat) (at .position)
+conditions t (Draw at) order = drawConditions t (at .seat) (at .position)
+conditions t (Double at) order = doubleConditions t (at .seat) (at .position)
+conditions t (Split at) order = splitConditions t (at .seat) (at .position)
+conditions t (Surrender at) order = surrenderConditions t (at .seat) (at .position)
+conditions t (Even at) order = evenConditions t (at .seat) (at .position)
+conditions t (Five at) order = fiveConditions t (at .seat) (at .position)
 conditions t Close order = closeConditions t
 conditions t Void order = voidConditions t
 conditions t Load order = loadConditions t order
-conditions t (Side at k n) order = sideConditions t (at .seat) k n
+conditions t (Side at k n) order = sideConditions t (at .seat) (at .position) k n
 
 -- What an accepted call does.
 abbrev pub effect : Table → Call → List ℕ → Table
 effect t (Fill n) order = fillEffect t n
 effect t (Credit n) order = creditEffect t n
-effect t (Buy at n) order = buyEffect t (at .seat) n
-effect t (Cash at n) order = cashEffect t (at .seat) n
-effect t (Stake at n) order = stakeEffect t (at .seat) n
+effect t (Buy at n) order = buyEffect t (at .seat) (at .position) n
+effect t (Cash at n) order = cashEffect t (at .seat) (at .position) n
+effect t (Stake at n) order = stakeEffect t (at .seat) (at .position) n
 effect t Deal order = dealEffect t
-effect t (Insure at n) order = insureEffect t (at .seat) n
+effect t (Insure at n) order = insureEffect t (at .seat) (at .position) n
 effect t (Stand at) order = standEffect t (at .seat)
 effect t (Draw at) order = drawEffect t (at .seat)
 effect t (Double at) order = doubleEffect t (at .seat)
@@ -70,7 +70,7 @@ effect t (Five at) order = fiveEffect t (at .seat)
 effect t Close order = closeEffect t
 effect t Void order = voidEffect t
 effect t Load order = loadEffect t order
-effect t (Side at k n) order = sideEffect t (at .seat) k n
+effect t (Side at k n) order = sideEffect t (at .seat) (at .position) k n
 
 -- What an accepted call shows, `after` being the table that it leaves: close, the call of kind 15, the bank's cards and score and the pay lines, every other call the scores of its
 -- hands.

@@ -1,10 +1,10 @@
--- Document 01, "The history": what it reads, the accepted calls with their seats and amounts, each with the order that was lent beside it. Newest first.
+-- Document 01, "The history": what it reads, the accepted calls with their seats, positions (request 2.8) and amounts, each with the order that was lent beside it. Newest first.
 use mathlib.Core.Bool.{Bool, _&&_, _||_}
 use mathlib.Core.List.{List}
 use Prim.Native.Nat.{ℕ, _+_}
 use lib.Dec.{leb, eqb}
 use Rattle.call.specs.declared.Call.{Call}
-use Rattle.call.specs.Call.{kind, seat, amount}
+use Rattle.call.specs.Call.{kind, seat, position, amount}
 
 pub record Entry : Type 0 where
   pub call : Call
@@ -16,6 +16,10 @@ isKind k e = eqb (kind (e .call)) k
 
 abbrev pub isOf : ℕ → Entry → Bool
 isOf i e = eqb (seat (e .call)) i
+
+-- Whether it names the guest in that position of the seat.
+abbrev pub isBy : ℕ → ℕ → Entry → Bool
+isBy i p e = isOf i e && eqb (position (e .call)) p
 
 abbrev pub isFill : Entry → Bool
 isFill e = isKind 1 e

@@ -69,7 +69,7 @@ decide hands p c e =
 unfoldable pub surrenders : List Played → List Played
 surrenders hands = set hands 0 (finished (getD hands 0 missingHand) bySurrender)
 
--- What a call makes of the hands of seat i. `before` and `staked` count staked seats, S is the seat's stake, `turn` the seat whose turn it is. A decision in
+-- What a call makes of the hands of seat i. `before` and `staked` count staked seats, S is its seated guest's stake, `turn` the seat whose turn it is. A decision in
 -- turn goes to that seat, whichever it names; surrender goes to the one that it names.
 unfoldable pub handsAfter : Options → Cards → ℕ → ℕ → ℕ → ℕ → ℕ → List Played → Entry → List Played
 handsAfter o c i before staked S turn hands e =
@@ -83,7 +83,7 @@ handsAfter o c i before staked S turn hands e =
 abbrev pub handsIn : Options → List ℕ → List Entry → ℕ → List Played
 handsIn o opening [] i = []
 handsIn o opening (e ∷ es) i =
-    handsAfter o (cardsOfHistory o opening es) i (stakedBelow es i) (stakedBelow es (o .seats)) (stakeIn es i) (turnIn o (cardsOfHistory o opening es) (λ k. handsIn o opening es k))
+    handsAfter o (cardsOfHistory o opening es) i (stakedBelow es i) (stakedBelow es (o .seats)) (stakeIn es i 0) (turnIn o (cardsOfHistory o opening es) (λ k. handsIn o opening es k))
     (handsIn o opening es i) e
 
 -- The first cards of a seat in this round (request 2.6): its two dealt cards, and behind them, once they are split, the next card drawn, which goes to the parent. Later

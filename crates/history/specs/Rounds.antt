@@ -4,7 +4,7 @@ use mathlib.Core.List.{List, [], _∷_}
 use Prim.Native.Nat.{ℕ}
 use lib.Dec.{ltb}
 use Rattle.lists.specs.Below.{sumBelow}
-use Rattle.history.specs.Entry.{Entry, isOf, isStake, isSideOf, isDeal, isInsure, isDrawing, isDecision, isEnd, amountOf}
+use Rattle.history.specs.Entry.{Entry, isBy, isStake, isSideOf, isDeal, isInsure, isDrawing, isDecision, isEnd, amountOf}
 
 -- A round is dealt: after its deal, until it ends.
 abbrev pub isDealtRound : List Entry → Bool
@@ -20,24 +20,24 @@ abbrev pub drewIn : List Entry → Bool
 drewIn [] = false
 drewIn (e ∷ es) = cond (isEnd e) false (isDrawing e || drewIn es)
 
--- S: what the seat staked in this round; 0 where it has not.
-abbrev pub stakeIn : List Entry → ℕ → ℕ
-stakeIn [] i = 0
-stakeIn (e ∷ es) i = cond (isEnd e) 0 (cond (isStake e && isOf i e) (amountOf e) (stakeIn es i))
+-- S: what the guest in position p of seat i staked in this round; 0 where there is none.
+abbrev pub stakeIn : List Entry → ℕ → ℕ → ℕ
+stakeIn [] i p = 0
+stakeIn (e ∷ es) i p = cond (isEnd e) 0 (cond (isStake e && isBy i p e) (amountOf e) (stakeIn es i p))
 
--- I: what it laid as insurance in this round.
-abbrev pub insuranceIn : List Entry → ℕ → ℕ
-insuranceIn [] i = 0
-insuranceIn (e ∷ es) i = cond (isEnd e) 0 (cond (isInsure e && isOf i e) (amountOf e) (insuranceIn es i))
+-- I: what that guest laid as insurance in this round.
+abbrev pub insuranceIn : List Entry → ℕ → ℕ → ℕ
+insuranceIn [] i p = 0
+insuranceIn (e ∷ es) i p = cond (isEnd e) 0 (cond (isInsure e && isBy i p e) (amountOf e) (insuranceIn es i p))
 
--- What it laid as a side stake of kind k in this round, and the four by kind (request 2.6).
-abbrev pub sideIn : List Entry → ℕ → ℕ → ℕ
-sideIn [] i k = 0
-sideIn (e ∷ es) i k = cond (isEnd e) 0 (cond (isSideOf k e && isOf i e) (amountOf e) (sideIn es i k))
+-- What that guest laid as a side stake of kind k in this round, and the four by kind (request 2.6).
+abbrev pub sideIn : List Entry → ℕ → ℕ → ℕ → ℕ
+sideIn [] i p k = 0
+sideIn (e ∷ es) i p k = cond (isEnd e) 0 (cond (isSideOf k e && isBy i p e) (amountOf e) (sideIn es i p k))
 
-abbrev pub sidesIn : List Entry → ℕ → List ℕ
-sidesIn es i = sideIn es i 1 ∷ sideIn es i 2 ∷ sideIn es i 3 ∷ sideIn es i 4 ∷ []
+abbrev pub sidesIn : List Entry → ℕ → ℕ → List ℕ
+sidesIn es i p = sideIn es i p 1 ∷ sideIn es i p 2 ∷ sideIn es i p 3 ∷ sideIn es i p 4 ∷ []
 
--- How many seats below that number have staked in this round.
+-- How many seats below that number have staked in this round: their seated guests have.
 abbrev pub stakedBelow : List Entry → ℕ → ℕ
-stakedBelow es n = sumBelow (λ k. cond (ltb 0 (stakeIn es k)) 1 0) n
+stakedBelow es n = sumBelow (λ k. cond (ltb 0 (stakeIn es k 0)) 1 0) n

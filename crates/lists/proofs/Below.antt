@@ -38,6 +38,11 @@ below-one-more f n = ap (allBelow f) (add-one n)
 pub below-passes : (f : ℕ → Bool) (n : ℕ) → f n ≡ true → allBelow f (n + 1) ≡ allBelow f n
 below-passes f n e = below-one-more f n ∙ ap (λ (b : Bool). allBelow f n && b) e ∙ and-true (allBelow f n)
 
+-- four tests, the first three of them passed
+pub all-but-last : (f : ℕ → Bool) → f 0 ≡ true → f 1 ≡ true → f 2 ≡ true → f 3 ≡ allBelow f 4
+unfolding allBelow
+all-but-last f one two three = sym (simp (one, two, three))
+
 -- equal tests below decide the same
 pub all-below-same : (f g : ℕ → Bool) (n : ℕ) → ((k : ℕ) → k < n → f k ≡ g k) → allBelow f n ≡ allBelow g n
 unfolding allBelow

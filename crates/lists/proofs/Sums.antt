@@ -109,12 +109,7 @@ module _ {A : Type 0} where
   sum-none f [] d h = refl
   sum-none f (x ∷ xs) d h = omega (arith, h 0 (omega arith), sum-none f xs d (λ i k. h (suc i) (suc-le-suc k)))
 
-  -- each number cut at m: no more than the sum, and no less than the sum cut at m
-  pub sum-cut-most : (f : A → ℕ) (m : ℕ) (xs : List A) → sumOf (λ x. min (f x) m) xs ≤ sumOf f xs
-  unfolding sumOf
-  sum-cut-most f m [] = omega arith
-  sum-cut-most f m (x ∷ xs) = omega (arith, sum-cut-most f m xs)
-
+  -- each number cut at m: no less than the sum cut at m
   pub sum-cut-least : (f : A → ℕ) (m : ℕ) (xs : List A) → min (sumOf f xs) m ≤ sumOf (λ x. min (f x) m) xs
   unfolding sumOf
   sum-cut-least f m [] = omega arith

@@ -1,4 +1,4 @@
--- How much the sums of k seats can be: one past 10^15 for each. So the sums of nine seats are far from 64 bits.
+-- How much the sums of k guests can be: one past 10^15 for each. So the sums of 27 guests are far from 64 bits.
 use Prim.Native.Nat.{ℕ, _+_, _*_, _≤_}
 use Rattle.table.specs.Money.{mostMoney}
 use Rattle.money.specs.declared.sums.Sums.{Sums}

@@ -1,19 +1,25 @@
-// The money of all seats, summed in one pass. Every table is taken: a damaged purse is cut before it is added, so no sum wraps.
+// The money of all guests of all seats, summed in one pass. Every table is taken: a damaged purse is cut before it is added, so no sum wraps.
 ghost use mathlib.Core.Path.{_≡_};
-ghost use Rattle.money.specs.Sums.{capped, seatSums, plusSums, tableSums};
+ghost use Prim.Native.Nat.{_<_};
+ghost use Rattle.table.specs.Seat.{guestAt};
+ghost use Rattle.money.specs.Sums.{noSums, capped, guestSums, seatSums, plusSums, tableSums};
 ghost use Rattle.money.specs.SumsFit.{SumsFit};
 use crate::seat_money::laid;
 use crate::seat_money::prizes;
 use options::Options;
 use payment::cover::cover;
 use payment::cover::side_cover;
+use state::seat::guest_at;
+use state::seat::guest_money;
+use state::seat::no_money;
+use state::seat::nobody_beside;
 use table::Seat;
 use table::Table;
 
 // All money on a table is at most 10^15.
 pub(crate) const MOST_MONEY: u64 = 1000000000000000;
 
-// The stakes of the seats, what they have laid, their prizes, what the tray must hold for them, and what is in their purses.
+// The stakes of guests, what they have laid, their prizes, what the tray must hold for them, and what is in their purses.
 pub struct Sums {
     pub stakes: u64,
     pub laid: u64,
@@ -33,9 +39,22 @@ fn cut(purse: u64) -> u64
     }
 }
 
-// The sums of one seat.
-pub fn seat_sums(o: Options, s: Seat) -> Sums
-    ensures same { λ r. ⌜ r ≡ seatSums o s ⌝ }
+// The sums of nobody.
+pub fn no_sums() -> Sums
+    ensures { λ r. ⌜ r ≡ noSums ⌝ }
+{
+    Sums {
+        stakes: 0,
+        laid: 0,
+        prizes: 0,
+        cover: 0,
+        purses: 0,
+    }
+}
+
+// The sums of one guest.
+pub fn guest_sums(o: Options, s: Seat) -> Sums
+    ensures same { λ r. ⌜ r ≡ guestSums o s ⌝ }
     ensures small { λ r. ⌜ SumsFit 1 r ⌝ }
 {
     let money = s.money;
@@ -49,10 +68,10 @@ pub fn seat_sums(o: Options, s: Seat) -> Sums
     }
 }
 
-// The sums of two groups of seats together. Public for passes over the nine seats alone: so it asks that both are sums of at most nine.
+// The sums of two groups of guests together. Public for passes over the 27 alone: so it asks that both are sums of at most 27.
 pub fn plus(a: Sums, b: Sums) -> Sums
-    requires left { ⌜ SumsFit 9 a ⌝ }
-    requires right { ⌜ SumsFit 9 b ⌝ }
+    requires left { ⌜ SumsFit 27 a ⌝ }
+    requires right { ⌜ SumsFit 27 b ⌝ }
     ensures { λ r. ⌜ r ≡ plusSums a b ⌝ }
 {
     Sums {
@@ -64,11 +83,11 @@ pub fn plus(a: Sums, b: Sums) -> Sums
     }
 }
 
-// The sums with those of one seat more. Not by `plus`: `seat_sums` called at one place is put into the pass that tests every table.
-fn with_seat_sums(all: Sums, o: Options, s: Seat) -> Sums
-    requires { ⌜ SumsFit 8 all ⌝ }
-    ensures same { λ r. ⌜ r ≡ plusSums all (seatSums o s) ⌝ }
-    ensures small { λ _. ⌜ SumsFit 1 (seatSums o s) ⌝ }
+// The sums with those of one guest more. Not by `plus`: `guest_sums` called at one place is put into the pass that tests every table.
+fn with_guest_sums(all: Sums, o: Options, s: Seat) -> Sums
+    requires { ⌜ SumsFit 26 all ⌝ }
+    ensures same { λ r. ⌜ r ≡ plusSums all (guestSums o s) ⌝ }
+    ensures small { λ _. ⌜ SumsFit 1 (guestSums o s) ⌝ }
 {
     let money = s.money;
     let sides = money.sides;
@@ -81,18 +100,40 @@ fn with_seat_sums(all: Sums, o: Options, s: Seat) -> Sums
     }
 }
 
+// The same for a guest beside the seated one; one who has nothing is passed over.
+fn with_other_sums(all: Sums, o: Options, s: Seat, p: u8) -> Sums
+    requires fit { ⌜ SumsFit 26 all ⌝ }
+    requires position { ⌜ p < 3 ⌝ }
+    ensures same { λ r. ⌜ r ≡ plusSums all (guestSums o (guestAt s p)) ⌝ }
+    ensures small { λ _. ⌜ SumsFit 1 (guestSums o (guestAt s p)) ⌝ }
+{
+    if no_money(guest_money(s, p)) {
+        return all;
+    }
+    with_guest_sums(all, o, guest_at(s, p))
+}
+
+// The sums with those of one seat more.
+fn with_seat_sums(all: Sums, o: Options, s: Seat) -> Sums
+    requires { ⌜ SumsFit 24 all ⌝ }
+    ensures same { λ r. ⌜ r ≡ plusSums all (seatSums o s) ⌝ }
+    ensures small { λ _. ⌜ SumsFit 3 (seatSums o s) ⌝ }
+{
+    let seated = with_guest_sums(all, o, s);
+    let others = s.others;
+    if nobody_beside(others) {
+        return seated;
+    }
+    let two = with_other_sums(seated, o, s, 1);
+    with_other_sums(two, o, s, 2)
+}
+
 // The sums of all nine seats.
 pub fn table_sums(t: Table) -> Sums
     ensures { λ r. ⌜ r ≡ tableSums t ⌝ }
 {
     let o = t.options;
-    let mut all = Sums {
-        stakes: 0,
-        laid: 0,
-        prizes: 0,
-        cover: 0,
-        purses: 0,
-    };
+    let mut all = no_sums();
     let seats = t.seats;
     for i in 0usize..9 {
         let s = seats[i];

@@ -29,7 +29,7 @@ tests o e =
     (and-eq-true-iff (allOf within (ranges o)) (isEvenNumber (o .smallest)) .0 (both .0), both .1)
 
 -- the value at each place of the list lies in its range
-range-at : (o : Options) → inRange o ≡ true → (k : ℕ) → k < 15 → let r = getD (ranges o) k (range 0 0 0) in (r .least ≤ r .value) × (r .value ≤ r .most)
+range-at : (o : Options) → inRange o ≡ true → (k : ℕ) → k < 16 → let r = getD (ranges o) k (range 0 0 0) in (r .least ≤ r .value) × (r .value ≤ r .most)
 unfolding ranges
 range-at o e k h = within-facts (getD (ranges o) k (range 0 0 0)) (all-at within (ranges o) k (range 0 0 0) (tests o e .0 .0) h)
 
@@ -48,7 +48,7 @@ unfolding ranges
 in-range-facts o e =
     let decks : (1 ≤ o .decks) × (o .decks ≤ mostDecks o) = range-at o e 1 (omega arith) in
     let later : (0 ≤ o .later) × (o .later ≤ mostLater o) = range-at o e 3 (omega arith) in
-    let cut : (leastCut o ≤ o .cut) × (o .cut ≤ mostCut o) = range-at o e 12 (omega arith) in
+    let cut : (leastCut o ≤ o .cut) × (o .cut ≤ mostCut o) = range-at o e 13 (omega arith) in
     record {
       seats-least = range-at o e 0 (omega arith) .0;
       seats-most = range-at o e 0 (omega arith) .1;
@@ -69,12 +69,14 @@ in-range-facts o e =
       prize-most = range-at o e 10 (omega arith) .1;
       device-least = range-at o e 11 (omega arith) .0;
       device-most = range-at o e 11 (omega arith) .1;
+      decider-least = range-at o e 12 (omega arith) .0;
+      decider-most = range-at o e 12 (omega arith) .1;
       box-decks = λ box. omega (arith, range-at o e 1 (omega arith) .0, simp box at (decks .1));
       box-later = λ box. omega (arith, simp box at (later .1));
       cut-most = omega (arith, cond-most (hasCut o) (26 * o .decks));
-      smallest-least = range-at o e 13 (omega arith) .0;
-      smallest-most = range-at o e 13 (omega arith) .1;
-      largest-most = range-at o e 14 (omega arith) .1;
+      smallest-least = range-at o e 14 (omega arith) .0;
+      smallest-most = range-at o e 14 (omega arith) .1;
+      largest-most = range-at o e 15 (omega arith) .1;
       smallest-even = eqb-true _ _ (tests o e .0 .1);
       largest-even = eqb-true _ _ (tests o e .1);
     }

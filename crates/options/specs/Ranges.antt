@@ -1,4 +1,5 @@
--- Document 01, "House options, given at opening", and request 2.7: each option with its least and its largest value, in the paper's order, the device behind the prize.
+-- Document 01, "House options, given at opening", and request 2.7: each option with its least and its largest value, in the paper's order, the device behind the prize
+-- and the decider (request 2.8) behind the device.
 use mathlib.Core.Bool.{Bool, cond, not, _&&_}
 use mathlib.Core.List.{List, [], _∷_}
 use Prim.Native.Nat.{ℕ, _*_, _%_}
@@ -49,6 +50,7 @@ ranges o =
     ∷ range (o .five) 0 1
     ∷ range (o .prize) 0 1
     ∷ range (o .device) shoeDevice machineDevice
+    ∷ range (o .decider) 1 2
     ∷ range (o .cut) (leastCut o) (mostCut o)
     ∷ range (o .smallest) 2 (o .largest)
     ∷ range (o .largest) (o .smallest) 1000000
@@ -78,6 +80,7 @@ noOptions =
       five = 0;
       prize = 0;
       device = 0;
+      decider = 0;
       cut = 0;
       smallest = 0;
       largest = 0;

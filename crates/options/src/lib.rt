@@ -1,4 +1,5 @@
 // House options, given at opening (document 01): the struct, its ranges and the test that decides them.
+pub mod decider;
 pub mod device;
 pub mod permitted;
 
@@ -34,6 +35,8 @@ pub struct Options {
     pub prize: u8,
     // Device: 1 shoe, 2 box (one deck, no later burn), 3 machine.
     pub device: u8,
+    // Who decides for a seat of several guests: 1 the seated guest, 2 the largest stake.
+    pub decider: u8,
     // Cards behind the cut: 0 with one deck, a box or a machine, else 30 to 26 for each deck.
     pub cut: u16,
     // Smallest stake, even, at least 2.
@@ -101,7 +104,7 @@ fn small(value: u8, least: u32, most: u32) -> Bounds
 }
 
 // The options with their ranges, in document 01's order.
-fn ranges(o: Options) -> [Bounds; 15]
+fn ranges(o: Options) -> [Bounds; 16]
     ensures { λ r. ⌜ r ≡ rangesOf o ⌝ }
 {
     [
@@ -117,16 +120,17 @@ fn ranges(o: Options) -> [Bounds; 15]
         small(o.five, 0, 1),
         small(o.prize, 0, 1),
         small(o.device, 1, 3),
+        small(o.decider, 1, 2),
         range(o.cut as u32, least_cut(o), most_cut(o)),
         range(o.smallest, 2, o.largest),
         range(o.largest, o.smallest, 1_000_000),
     ]
 }
 
-fn all_within(rs: [Bounds; 15]) -> bool
+fn all_within(rs: [Bounds; 16]) -> bool
     ensures { λ r. ⌜ r ≡ allOf isWithin rs ⌝ }
 {
-    for i in 0usize..15 {
+    for i in 0usize..16 {
         let r = rs[i];
         if !within(r) {
             return false;

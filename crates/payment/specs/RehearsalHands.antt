@@ -58,6 +58,7 @@ house limit =
       five = 0;
       prize = 1;
       device = 1;
+      decider = 1;
       cut = 0;
       smallest = 2;
       largest = 100;

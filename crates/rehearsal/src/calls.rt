@@ -41,6 +41,11 @@ fn call_of(letter: u8, at: At, amount: u64) -> Call {
     }
 }
 
+// The seated guest of a seat.
+fn seated(seat: u8) -> At {
+    At { seat, position: 0 }
+}
+
 // As many draws of a seat as the amount says, at most twenty; the answer of the last.
 fn drawn(t: Table, at: At, times: u64, names: &mut [u32; LINES], nets: &mut [i64; LINES]) -> Reply {
     let mut s = step(t, Call::Draw(at), b"", names, nets);
@@ -62,10 +67,10 @@ fn all_staked(
 ) -> Table {
     let mut next = t;
     for seat in 0u8..seats {
-        let bought = step(next, Call::Buy(At { seat }, amount), b"", names, nets);
+        let bought = step(next, Call::Buy(seated(seat), amount), b"", names, nets);
         let staked = step(
             bought.table,
-            Call::Stake(At { seat }, amount),
+            Call::Stake(seated(seat), amount),
             b"",
             names,
             nets,
@@ -85,7 +90,7 @@ fn all_cashed(
 ) -> Table {
     let mut next = t;
     for seat in 0u8..seats {
-        let cashed = step(next, Call::Cash(At { seat }, amount), b"", names, nets);
+        let cashed = step(next, Call::Cash(seated(seat), amount), b"", names, nets);
         next = cashed.table;
     }
     next
@@ -145,7 +150,7 @@ fn played(
     }
 }
 
-// One row: at 2 stands the seat, at 4 the amount, at 21 the words.
+// One row: at 2 stands the seat, at 3 the position (a blank is the seated guest's), at 4 the amount, at 21 the words.
 pub(crate) fn called(
     s: Stage,
     row: &[u8],
@@ -159,6 +164,7 @@ pub(crate) fn called(
     let letter = row[0];
     let at = At {
         seat: digit(row[2]),
+        position: digit(row[3]),
     };
     let amount = number(&row[4..20]);
     let after = played(t, letter, at, amount, order, names, nets);

@@ -85,9 +85,9 @@ pub(crate) fn ordered(s: Stage, row: &[u8]) -> Stage
     next
 }
 
-// Twelve options of a digit each, at 2; the cut at 15, the smallest stake at 19, the largest at 27.
+// Thirteen options of a digit each, at 2; the cut at 16, the smallest stake at 20, the largest at 28.
 fn house(row: &[u8]) -> Options
-    requires { do ⌜ 35 ≤ (← ⟦row.len()⟧) ⌝ }
+    requires { do ⌜ 36 ≤ (← ⟦row.len()⟧) ⌝ }
 {
     Options {
         seats: digit(row[2]),
@@ -102,9 +102,10 @@ fn house(row: &[u8]) -> Options
         five: digit(row[11]),
         prize: digit(row[12]),
         device: digit(row[13]),
-        cut: (number(&row[15..18]) % 1000) as u16,
-        smallest: (number(&row[19..26]) % 10000000) as u32,
-        largest: (number(&row[27..34]) % 10000000) as u32,
+        decider: digit(row[14]),
+        cut: (number(&row[16..19]) % 1000) as u16,
+        smallest: (number(&row[20..27]) % 10000000) as u32,
+        largest: (number(&row[28..35]) % 10000000) as u32,
     }
 }
 
@@ -115,14 +116,14 @@ fn opened_by(cards: [u8; 416], count: usize, o: Options) -> Outcome {
 
 // An opening with the order that was lent last.
 pub(crate) fn opened(s: Stage, row: &[u8]) -> Stage {
-    if row.len() < 35 {
+    if row.len() < 36 {
         return s;
     }
     let order = s.order;
     let cards = order.cards;
     let o = opened_by(cards, order.count, house(row));
     let table = o.table;
-    lines::opened(o.number, table, &row[35..]);
+    lines::opened(o.number, table, &row[36..]);
     let mut next = s;
     next.table = table;
     next

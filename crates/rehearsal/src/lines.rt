@@ -6,6 +6,7 @@ use call::pay_line::HAND;
 use call::pay_line::LINES;
 use call::pay_line::line_kind;
 use call::pay_line::line_place;
+use call::pay_line::line_position;
 use call::pay_line::line_seat;
 use cards::hand::Hand;
 use cards::hand::held;
@@ -122,9 +123,17 @@ fn purpose(kind: u8) {
     );
 }
 
+// The position of a guest, where it is not the seated one.
+fn guest(position: u8) {
+    if position != 0 {
+        counted(b" guest", position as u64);
+    }
+}
+
 fn pay_line(name: u32, n: i64) {
     let kind = line_kind(name);
     counted(b"  seat", line_seat(name) as u64);
+    guest(line_position(name));
     purpose(kind);
     if kind == HAND {
         figure(line_place(name) as u64);
@@ -252,18 +261,18 @@ fn hand(place: usize, h: HandShown) {
     words(b"\n");
 }
 
-// The hands of a seat, in their places.
-pub(crate) fn hands(t: Table, seat: u8) {
-    let shown = shown_seat(t, seat);
+// The hands of a seat, in their places, with the wagers of one guest.
+pub(crate) fn hands(t: Table, seat: u8, position: u8) {
+    let shown = shown_seat(t, seat, position);
     let n = shown.hands;
     for place in 0usize..4 {
         if place < n {
-            hand(place, shown_hand(t, seat, place));
+            hand(place, shown_hand(t, seat, position, place));
         }
     }
 }
 
-// Whose turn it is.
+// Whose turn it is, and the guest who decides.
 pub(crate) fn turn(t: Table) {
     let shown = shown_turn(t);
     if !shown.somebody {
@@ -271,6 +280,7 @@ pub(crate) fn turn(t: Table) {
         return;
     }
     counted(b"  turn of seat", shown.seat as u64);
+    guest(shown.position);
     counted(b" hand", shown.place as u64);
     words(b"\n");
 }

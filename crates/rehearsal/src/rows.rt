@@ -18,7 +18,7 @@ fn row_shown(s: Stage, row: &[u8])
     let t = s.table;
     match letter {
         b'=' => lines::heading(&row[21..]),
-        b'h' => lines::hands(t, digit(row[2])),
+        b'h' => lines::hands(t, digit(row[2]), digit(row[3])),
         b'a' => lines::aloud(s.aloud),
         b'k' => lines::bank(t),
         _ => lines::turn(t),

@@ -19,7 +19,7 @@ use Rattle.table.specs.declared.Table.{Table}
 use Rattle.table.specs.Shoe.{validOrder}
 use Rattle.table.specs.Table.{isDealt}
 use Rattle.table.specs.Broken.{broken}
-use Rattle.answer.specs.Conditions.{seatConditions}
+use Rattle.answer.specs.Conditions.{seatConditions, guestConditions}
 use Rattle.cashier_spec.specs.Load.{loadConditions}
 use Rattle.cashier_spec.specs.Side.{isSideKind, sideConditions}
 use Rattle.deal_spec.specs.Deal.{loadDue, dealConditions}
@@ -28,9 +28,9 @@ use Rattle.engine.specs.Step.{conditions}
 use Rattle.secret.proofs.Plain.{isPlain}
 
 -- a decision in turn: a round is dealt
-pub turn-dealt : (t : Table) (j : ℕ) (rest : List Condition) → first (turnConditions t j ++ rest) ≡ 0 → isDealt t ≡ true
-unfolding turnConditions seatConditions
-turn-dealt t j rest accepted = not-false (isDealt t) (accepted-head 5 _ _ (omega arith) (accepted-tail 1 (broken t) _ (omega arith) accepted))
+pub turn-dealt : (t : Table) (j p : ℕ) (rest : List Condition) → first (turnConditions t j p ++ rest) ≡ 0 → isDealt t ≡ true
+unfolding turnConditions guestConditions seatConditions
+turn-dealt t j p rest accepted = not-false (isDealt t) (accepted-head 5 _ _ (omega arith) (accepted-tail 1 (broken t) _ (omega arith) accepted))
 
 -- a load: the order is valid, and no round is dealt
 pub load-accepted : (t : Table) (lent : List ℕ) → first (loadConditions t lent) ≡ 0 → (validOrder (t .options .decks) lent ≡ true) × (isDealt t ≡ false)
@@ -73,6 +73,6 @@ no-load t Close lent plain accepted = refl
 no-load t Void lent plain accepted = refl
 no-load t Load lent plain accepted = absurd (true≢false (sym plain))
 no-load t (Side at k n) lent plain accepted =
-    let known : isSideKind k ≡ true = not-false (isSideKind k) (none-hold (sideConditions t (at .seat) k n) refl accepted .1 .1 .1 .0) in
+    let known : isSideKind k ≡ true = not-false (isSideKind k) (none-hold (sideConditions t (at .seat) (at .position) k n) refl accepted .1 .1 .1 .0) in
     let least : 1 ≤ k = leb-true 1 k (and-eq-true-iff (leb 1 k) (leb k 4) .0 known .0) in
     ne-eqb (17 + k) 17 (λ e. omega (arith, least, e))

@@ -59,7 +59,7 @@ undrawn-most q t (e ∷ es) none = leb-true _ _ (and-eq-true-iff (leb (t .shoe .
 
 -- what a display reads is the same of equal tables, and of two that are behind the deal
 shows-self : (t : Table) → ShowsSame t t
-shows-self t = record { table = refl; turn = refl; seat = λ i. refl; hand = λ i p. refl }
+shows-self t = record { table = refl; turn = refl; seat = λ i q. refl; hand = λ i q p. refl }
 
 plays-self : (es : List Entry) (t : Table) → Plays ShowsSame es t t
 plays-self es t = record { answers-same = refl; ends = shows-self (run t es) }

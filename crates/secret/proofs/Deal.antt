@@ -20,7 +20,7 @@ use Rattle.table.specs.Table.{tableShoe}
 use Rattle.deal_spec.specs.Burn.{burnAtDeal}
 use Rattle.deal_spec.specs.Pass.{firstCard, secondCard, pass}
 use Rattle.deal_spec.specs.Deal.{stakedSeats, burnt, dealTakes, dealtSeats, upCard, hiddenCard, dealtBank, dealEffect}
-use Rattle.deal_spec.proofs.Pass.{pass-money}
+use Rattle.deal_spec.proofs.Pass.{pass-sum}
 use Rattle.engine.specs.Step.{number, next}
 use Rattle.secret.proofs.Veil.{veil, BanksAlike, Veiled}
 use Rattle.secret.proofs.Steps.{accepted-next}
@@ -98,7 +98,7 @@ module _ (t : Table) (bank : Hand) (order discards : List ℕ) (box : isBox (t .
         let at = t .shoe .drawn + burnt t in
         let staked = stakedSeats (t .seats) in
         let half = pass firstCard (t .shoe .order) at (t .seats) in
-        let stays : stakedSeats half ≡ staked = pass-money firstCard (t .shoe .order) (λ s card. refl) (λ m. cond (ltb 0 (m .stake)) 1 0) at (t .seats) in
+        let stays : stakedSeats half ≡ staked = pass-sum firstCard (t .shoe .order) (λ s. cond (isStaked s) 1 0) (λ s card. refl) at (t .seats) in
         let first : pass firstCard order at (t .seats) ≡ half = pass-same firstCard (t .shoe .order) order at (t .seats) (λ k least most. same k (omega (arith, hidden, box-takes t box))) in
         let second : pass secondCard order (at + staked + 1) half ≡ pass secondCard (t .shoe .order) (at + staked + 1) half =
         pass-same secondCard (t .shoe .order) order (at + staked + 1) half (λ k least most. same k (omega (arith, hidden, box-takes t box, stays))) in

@@ -97,9 +97,9 @@ module _ (t : Table) (bank : Hand) (order discards : List ℕ) (alike : BanksAli
   carried Deal lent plain accepted draws = absurd (true≢false (sym plain))
   carried (Insure at n) lent plain accepted draws = stays _ _ refl refl refl
   carried (Stand at) lent plain accepted draws = stays _ _ (simp (alike .up)) refl refl
-  carried (Draw at) lent plain accepted draws = card _ _ (at .seat) (turn-dealt t (at .seat) _ accepted) draws
-  carried (Double at) lent plain accepted draws = card _ _ (at .seat) (turn-dealt t (at .seat) _ accepted) draws
-  carried (Split at) lent plain accepted draws = split (at .seat) (turn-dealt t (at .seat) _ accepted) draws
+  carried (Draw at) lent plain accepted draws = card _ _ (at .seat) (turn-dealt t (at .seat) (at .position) _ accepted) draws
+  carried (Double at) lent plain accepted draws = card _ _ (at .seat) (turn-dealt t (at .seat) (at .position) _ accepted) draws
+  carried (Split at) lent plain accepted draws = split (at .seat) (turn-dealt t (at .seat) (at .position) _ accepted) draws
   carried (Surrender at) lent plain accepted draws = stays _ _ refl refl refl
   carried (Even at) lent plain accepted draws = stays _ _ (simp (alike .up)) refl refl
   carried (Five at) lent plain accepted draws = stays _ _ (simp (alike .up)) refl refl

@@ -12,19 +12,20 @@ use Rattle.cards.specs.Total.{total}
 use Rattle.cards.specs.Length.{couldBePlayed}
 use Rattle.cards.specs.PrizeHand.{allSevens, suitedSixSevenEight, isPrizeHand}
 use Rattle.options.specs.Device.{bankAtDeal}
+use Rattle.options.specs.Decider.{decidingPosition}
 use Rattle.options.specs.Ranges.{ranges, inRange}
 use Rattle.rules.specs.Waits.{cardsWait, waits}
 use Rattle.payment.specs.Bank.{mustDraw}
 use Rattle.rules.specs.Permits.{takesCards, permitsDraw}
 use Rattle.payment.specs.Wager.{wager}
 use Rattle.payment.specs.Prize.{prize}
-use Rattle.table.specs.Seat.{laid, prizes}
+use Rattle.table.specs.Seat.{guestAt, withGuest, laid, prizes}
 use Rattle.table.specs.Shoe.{validOrder, burnsFirst}
 use Rattle.options.specs.Permitted.{stakePermitted}
-use Rattle.table.specs.Broken.{soundOrigin, soundEnding, soundHand, soundNumber, soundStake, soundInsurance, soundSides, soundHands, soundPrizes, soundSeat, soundShoe, soundBegun, soundDiscards, soundFaces, soundBank, soundMoney, sound}
+use Rattle.table.specs.Broken.{soundOrigin, soundEnding, soundHand, soundNumber, soundStake, soundInsurance, soundSides, soundHands, soundPrizes, soundGuest, seatedFirst, soundSeat, soundShoe, soundBegun, soundDiscards, soundFaces, soundBank, soundMoney, sound}
 use Rattle.cashier_spec.specs.Opening.{openConditions, openNumber, opened}
 use Rattle.cashier_spec.specs.Fill.{fillConditions, fillEffect}
-use Rattle.answer.specs.Conditions.{seatConditions}
+use Rattle.answer.specs.Conditions.{seatConditions, guestConditions}
 use Rattle.cashier_spec.specs.Buy.{buyConditions, buyEffect}
 use Rattle.cashier_spec.specs.Load.{loadConditions, loadEffect}
 use Rattle.cashier_spec.specs.Stake.{stakeConditions, stakeEffect}
@@ -44,7 +45,7 @@ use Rattle.secret.specs.Secret.{quiet, undrawn}
 use Rattle.secret.specs.Example.{boxHouse, faces, rising, filled, staked, played, calls, bankClosed, Example}
 
 pub example : Example
-unfolding boxHouse faces rising filled staked played calls bankClosed quiet undrawn run burnsFirst soundBegun bankAtDeal loadDue hiddenCard dealtBank loadConditions loadEffect drawConditions closeShown at sumOf anyOf allOf firstPlace allBelow flat first pointsOf withCard total couldBePlayed allSevens suitedSixSevenEight isPrizeHand ranges inRange cardsWait waits mustDraw takesCards permitsDraw wager prize laid prizes validOrder stakePermitted soundOrigin soundEnding soundHand soundNumber soundStake soundInsurance soundSides soundHands soundPrizes soundSeat soundShoe soundDiscards soundFaces soundBank soundMoney sound openConditions openNumber opened fillConditions fillEffect seatConditions buyConditions buyEffect stakeConditions stakeEffect burnAtDeal pass dealTakes dealConditions dealtSeats upCard dealEffect turnConditions endEffect cardEffect bankBurn bankTakes bankAtClose closeConditions number next step replyBy
+unfolding guestAt withGuest guestConditions decidingPosition soundGuest seatedFirst boxHouse faces rising filled staked played calls bankClosed quiet undrawn run burnsFirst soundBegun bankAtDeal loadDue hiddenCard dealtBank loadConditions loadEffect drawConditions closeShown at sumOf anyOf allOf firstPlace allBelow flat first pointsOf withCard total couldBePlayed allSevens suitedSixSevenEight isPrizeHand ranges inRange cardsWait waits mustDraw takesCards permitsDraw wager prize laid prizes validOrder stakePermitted soundOrigin soundEnding soundHand soundNumber soundStake soundInsurance soundSides soundHands soundPrizes soundSeat soundShoe soundDiscards soundFaces soundBank soundMoney sound openConditions openNumber opened fillConditions fillEffect seatConditions buyConditions buyEffect stakeConditions stakeEffect burnAtDeal pass dealTakes dealConditions dealtSeats upCard dealEffect turnConditions endEffect cardEffect bankBurn bankTakes bankAtClose closeConditions number next step replyBy
 example =
     record {
       in-a-load = record { box = refl; loads = refl; hides = record { no-other = refl; dealt = refl; hidden = refl; place = omega arith; not-drawn = refl; no-close = refl } };

@@ -10,7 +10,7 @@ use Rattle.table.specs.declared.Table.{Table}
 use Rattle.table.specs.Broken.{sound}
 use Rattle.table.specs.Shoe.{burnsFirst}
 use Rattle.table.specs.Progress.{anyDrew, anyDecided}
-use Rattle.answer.specs.Conditions.{seatConditions}
+use Rattle.answer.specs.Conditions.{seatConditions, guestConditions}
 use Rattle.cashier_spec.specs.Fill.{fillConditions}
 use Rattle.cashier_spec.specs.Credit.{creditConditions}
 use Rattle.cashier_spec.specs.Buy.{buyConditions}
@@ -35,7 +35,7 @@ use Rattle.secret.proofs.Plain.{isPlain}
 
 module _ (t : Table) (bank : Hand) (order discards : List ℕ) (alike : BanksAlike (t .bank) bank) (same : sound (veil bank order discards t) ≡ sound t) where
   pub conditions-same : (c : Call) (lent : List ℕ) → isPlain c ≡ true → conditions (veil bank order discards t) c lent ≡ conditions t c lent
-  unfolding fillConditions creditConditions seatConditions buyConditions cashConditions stakeConditions sideConditions insureConditions turnConditions drawConditions doubleConditions splitConditions surrenderConditions evenConditions fiveConditions voidConditions anyDrew anyDecided
+  unfolding fillConditions creditConditions seatConditions guestConditions buyConditions cashConditions stakeConditions sideConditions insureConditions turnConditions drawConditions doubleConditions splitConditions surrenderConditions evenConditions fiveConditions voidConditions anyDrew anyDecided
   conditions-same (Fill n) lent plain = simp (same, alike .many)
   conditions-same (Credit n) lent plain = simp (same, alike .many)
   conditions-same (Buy at n) lent plain = simp (same, alike .many)

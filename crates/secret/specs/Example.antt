@@ -17,7 +17,7 @@ use Rattle.secret.specs.Secret.{exchanged, load, upToClose, OneLoad, AtO
 -- The marked session's options, but for a box.
 unfoldable pub boxHouse : Options
 boxHouse =
-    record { seats = 6; decks = 1; first = 1; later = 0; hands = 4; aces = 0; double = 1; limit = 0; insurance = 1; five = 0; prize = 1; device = 2; cut = 0; smallest = 2; largest = 100 }
+    record { seats = 6; decks = 1; first = 1; later = 0; hands = 4; aces = 0; double = 1; limit = 0; insurance = 1; five = 0; prize = 1; device = 2; decider = 1; cut = 0; smallest = 2; largest = 100 }
 
 -- The faces from n on, k of them.
 unfoldable pub faces : ℕ → ℕ → List ℕ

@@ -9,7 +9,7 @@ use libc::STDOUT_FILENO;
 use options::Options;
 use table::Table;
 
-// One deck, six seats, first burn 1, later 0, four hands, aces 0, double 1, limit 0, insurance 1, five 0, prize 1, shoe, cut 0, stakes 2 to 100.
+// One deck, six seats, first burn 1, later 0, four hands, aces 0, double 1, limit 0, insurance 1, five 0, prize 1, shoe, the seated guest decides, cut 0, stakes 2 to 100.
 fn house() -> Options {
     Options {
         seats: 6,
@@ -24,6 +24,7 @@ fn house() -> Options {
         five: 0,
         prize: 1,
         device: 1,
+        decider: 1,
         cut: 0,
         smallest: 2,
         largest: 100,
@@ -124,7 +125,10 @@ fn play(
 fn main() {
     let cards = marked_order();
     let order: &[u8] = &cards;
-    let at = At { seat: 2 };
+    let at = At {
+        seat: 2,
+        position: 0,
+    };
     let mut names = [0u32; LINES];
     let mut nets = [0i64; LINES];
     io::write_all(STDOUT_FILENO, b"call no tray layout purses left\n");

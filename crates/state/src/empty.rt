@@ -27,6 +27,7 @@ pub fn no_options() -> Options
         five: 0,
         prize: 0,
         device: 0,
+        decider: 0,
         cut: 0,
         smallest: 0,
         largest: 0,
@@ -41,13 +42,15 @@ pub fn empty_seat() -> Seat
         origin: DEALT,
         ended: NOT_ENDED,
     };
+    let money = Money {
+        purse: 0,
+        stake: 0,
+        insurance: 0,
+        sides: [0u32; 4],
+    };
     Seat {
-        money: Money {
-            purse: 0,
-            stake: 0,
-            insurance: 0,
-            sides: [0u32; 4],
-        },
+        money,
+        others: [money; 2],
         hands: SeatHands {
             places: [place; 4],
             many: 0,

@@ -1,7 +1,7 @@
 -- A table is sound where the facts of `Sound` hold, and only there. The arrays' lengths tie a count to what it counts.
-use mathlib.Core.Path.{_≡_, refl, _∙_}
-use mathlib.Core.Bool.{Bool, true, false, cond, not, _&&_, _||_, or-true, or-false}
-use mathlib.Core.List.{[], _∷_, _++_}
+use mathlib.Core.Path.{_≡_, refl, sym, _∙_, ap, subst}
+use mathlib.Core.Bool.{Bool, true, false, cond, not, _&&_, _||_, and-eq-true-iff, or-true, or-false}
+use mathlib.Core.List.{List, [], _∷_, _++_}
 use Prim.Native.Nat.{ℕ, _+_, _*_, _≤_, _<_}
 use native.Mathlib.Decide.{decLe}
 use native.Mathlib.Omega.{arith}
@@ -12,6 +12,7 @@ use borrow.Author.Tests.{ltb-true, ltb-false, leb-true, leb-false, eqb-true, lt-
 use Rattle.lists.specs.Sum.{countOf, sumOf}
 use Rattle.lists.specs.Tests.{allOf}
 use Rattle.lists.specs.Below.{allBelow}
+use Rattle.lists.proofs.Sums.{sum-none}
 use Rattle.lists.proofs.Tests.{and-at, or-other, or-unless, test-some, some-test, test-where, where-test, all-at, at-all}
 use Rattle.lists.proofs.Below.{all-below, below-all}
 use Rattle.cards.specs.Card.{isAce}
@@ -25,18 +26,24 @@ use Rattle.options.proofs.Facts.{in-range-facts}
 use Rattle.rules.specs.declared.seat_hand.SeatHand.{SeatHand}
 use Rattle.rules.specs.SeatHand.{playedOf}
 use Rattle.rules.proofs.seat_hand.Places.{many-hands}
+use Rattle.payment.specs.Wager.{wager}
+use Rattle.payment.specs.Prize.{prize}
+use Rattle.payment.proofs.Bounds.{wager-bounds, prize-most}
 use Rattle.payment.specs.Bets.{allSides}
+use Rattle.table.specs.declared.Money.{Money}
 use Rattle.table.specs.declared.Seat.{Seat}
 use Rattle.table.specs.declared.Shoe.{Shoe}
 use Rattle.table.specs.declared.Table.{Table}
-use Rattle.table.specs.Seat.{missingPlace, purse, stake, insurance, sides, isStaked, hands, laid, prizes}
+use Rattle.table.specs.Guest.{missingMoney, isNobody, nobodyIn}
+use Rattle.table.specs.Seat.{makeSeat, missingPlace, guestAt, anyGuest, eachGuest, purse, stake, insurance, sides, isStaked, hands, laid, prizes}
 use Rattle.table.specs.Shoe.{validOrder}
 use Rattle.table.specs.Table.{seatAt, isDealt, up, someStaked, tableOrder, tableDrawn, tableDiscards, handCards, bankCards, tableShoe, cardsLeft}
 use Rattle.table.specs.Money.{mostMoney, allMoney, allPrizes, allCover}
 use Rattle.table.specs.Faces.{outCards}
 use Rattle.options.specs.Permitted.{insurancePermitted, mostSide}
-use Rattle.table.specs.Broken.{broken, sound, soundShoe, soundDiscards, soundFaces, soundBegun, soundBank, soundMoney, seatSound, soundSeat, soundNumber, soundStake, soundInsurance, soundSides, soundHands, soundPrizes, soundHand, soundOrigin, soundEnding}
-use Rattle.table.specs.Aids.Sound.{Sound, SoundSeat, SoundHand, Insured, Playing, HoldsNothing}
+use Rattle.table.specs.Broken.{broken, sound, soundShoe, soundDiscards, soundFaces, soundBegun, soundBank, soundMoney, seatSound, soundSeat, soundGuest, seatedFirst, soundNumber, soundStake, soundInsurance, soundSides, soundHands, soundPrizes, soundHand, soundOrigin, soundEnding}
+use Rattle.table.proofs.Guests.{each-guest, guest-each, no-guest, guest-none}
+use Rattle.table.specs.Aids.Sound.{Sound, SoundSeat, SoundGuest, SoundHand, Insured, Playing, NoBets, HoldsNothing}
 
 -- A hand.
 hand-facts : (o : Options) (up many : ℕ) (h : SeatHand) → soundHand o up many h ≡ true → SoundHand o up many h
@@ -57,22 +64,31 @@ facts-hand : (o : Options) (up many : ℕ) (h : SeatHand) → SoundHand o up man
 unfolding soundHand
 facts-hand o up many h f = simp (le-leb _ _ (f .two-cards), le-leb _ _ (f .twenty-cards), f .played, f .origin, f .ended)
 
--- A seat beyond the option.
+-- A guest without money, and a seat beyond the option.
+pub nothing-facts : (s : Seat) → isNobody (s .money) ≡ true → (purse s ≡ 0) × NoBets s
+nothing-facts s e =
+    let test = and-at (eqb (purse s) 0 ∷ eqb (stake s) 0 ∷ eqb (insurance s) 0 ∷ allBelow (λ k. eqb (getD (sides s) k 0) 0) 4 ∷ []) e in (
+      eqb-true _ _ (test 0),
+      record { no-stake = eqb-true _ _ (test 1); no-insurance = eqb-true _ _ (test 2); no-sides = λ k h. eqb-true _ _ (all-below _ 4 k (test 3) h) },
+    )
+
+-- nobody beside the seated guest: neither of the two others
+pub nobody-beside : (s : Seat) → nobodyIn (s .others) ≡ true
+    → (isNobody (guestAt s 1 .money) ≡ true) × (isNobody (guestAt s 2 .money) ≡ true)
+unfolding guestAt
+nobody-beside s e = and-eq-true-iff (isNobody (getD (s .others) 0 missingMoney)) (isNobody (getD (s .others) 1 missingMoney)) .0 e
+
 number-facts : (o : Options) (i : ℕ) (s : Seat) → soundNumber o i s ≡ true → o .seats ≤ i → HoldsNothing s
 unfolding soundNumber
 number-facts o i s e beyond =
-    let tests = eqb (purse s) 0 ∷ eqb (stake s) 0 ∷ eqb (insurance s) 0 ∷ allBelow (λ k. eqb (getD (sides s) k 0) 0) 4 ∷ eqb (s .hands .many) 0 ∷ [] in
-    let test = and-at tests (or-other (ltb i (o .seats)) _ e (le-ltb _ _ beyond)) in
-    record {
-      no-purse = eqb-true _ _ (test 0);
-      no-stake = eqb-true _ _ (test 1);
-      no-insurance = eqb-true _ _ (test 2);
-      no-sides = λ k h. eqb-true _ _ (all-below _ 4 k (test 3) h);
-      no-hands = eqb-true _ _ (test 4);
-    }
+    let (money, hands) = and-eq-true-iff _ (eqb (s .hands .many) 0) .0 (or-other (ltb i (o .seats)) _ e (le-ltb _ _ beyond)) in
+    let (purse, bets) = nothing-facts s money in
+    record { no-purse = purse; no-bets = bets; no-hands = eqb-true _ _ hands }
 
-nothing-test : (s : Seat) → HoldsNothing s → eqb (purse s) 0 && eqb (stake s) 0 && eqb (insurance s) 0 && allBelow (λ k. eqb (getD (sides s) k 0) 0) 4 && eqb (s .hands .many) 0 ≡ true
-nothing-test s f = simp (f .no-purse, f .no-stake, f .no-insurance, below-all (λ k. eqb (getD (sides s) k 0) 0) 4 (λ k h. eq-eqb _ _ (f .no-sides k h)), f .no-hands)
+nothing-test : (s : Seat) → HoldsNothing s → isNobody (s .money) && eqb (s .hands .many) 0 ≡ true
+nothing-test s f =
+    let none = f .no-bets in
+    simp (f .no-purse, none .no-stake, none .no-insurance, below-all (λ k. eqb (getD (sides s) k 0) 0) 4 (λ k h. eq-eqb _ _ (none .no-sides k h)), f .no-hands)
 
 facts-number : (o : Options) (i : ℕ) (s : Seat) → (o .seats ≤ i → HoldsNothing s) → soundNumber o i s ≡ true
 unfolding soundNumber
@@ -151,32 +167,63 @@ facts-hands o inRound up s waits plays = go (decLe (s .hands .many) 0)
         let f = plays (omega arith) in
         simp (f .in-round, lt-ltb _ _ (f .staked), le-leb _ _ (f .within), lt-ltb 0 (s .hands .many) (omega arith), each-test o up s (f .each), or-true)
 
--- A seat.
-seat-facts : (o : Options) (inRound : Bool) (up i : ℕ) (s : Seat) → soundSeat o inRound up i s ≡ true → SoundSeat o inRound up i s
-unfolding soundSeat soundStake soundPrizes
-seat-facts o inRound up i s e =
-    let tests = soundNumber o i s ∷ soundStake o s ∷ soundInsurance o inRound up s ∷ soundSides s ∷ soundHands o inRound up s ∷ soundPrizes o s ∷ [] in
+-- A guest.
+guest-facts : (o : Options) (inRound : Bool) (up i : ℕ) (s : Seat) → soundGuest o inRound up i s ≡ true → SoundGuest o inRound up i s
+unfolding soundGuest soundStake soundPrizes
+guest-facts o inRound up i s e =
+    let tests = soundNumber o i s ∷ soundStake o s ∷ soundInsurance o inRound up s ∷ soundSides s ∷ soundPrizes o s ∷ [] in
     let test = and-at tests e in
     record {
       beyond = number-facts o i s (test 0);
       stake-fits = test-some (stake s) _ (test 1);
       insured = insurance-facts o inRound up s (test 2);
       sides-fit = sides-facts s (test 3);
-      waiting = waiting-facts o inRound up s (test 4);
-      playing = playing-facts o inRound up s (test 4);
-      prizes-back = leb-true _ _ (test 5);
+      prizes-back = leb-true _ _ (test 4);
     }
 
-facts-seat : (o : Options) (inRound : Bool) (up i : ℕ) (s : Seat) → SoundSeat o inRound up i s → soundSeat o inRound up i s ≡ true
-unfolding soundSeat soundStake soundPrizes
-facts-seat o inRound up i s f =
+facts-guest : (o : Options) (inRound : Bool) (up i : ℕ) (s : Seat) → SoundGuest o inRound up i s → soundGuest o inRound up i s ≡ true
+unfolding soundGuest soundStake soundPrizes
+facts-guest o inRound up i s f =
     simp (
       facts-number o i s (f .beyond),
       some-test (stake s) _ (f .stake-fits),
       facts-insurance o inRound up s (f .insured),
       facts-sides s (f .sides-fit),
-      facts-hands o inRound up s (f .waiting) (f .playing),
       le-leb _ _ (f .prizes-back),
+    )
+
+-- The seated guest stakes first.
+seated-facts : (s : Seat) → seatedFirst s ≡ true → (p : ℕ) → p < 3 → stake s ≡ 0 → stake (guestAt s p) ≡ 0
+unfolding seatedFirst
+seated-facts s e p h none =
+    let idle = not-true (anyGuest isStaked s) (or-other (isStaked s) _ e (le-ltb 0 (stake s) (omega arith))) in
+    omega (arith, ltb-false 0 (stake (guestAt s p)) (no-guest isStaked s idle p h))
+
+facts-seated : (s : Seat) → ((p : ℕ) → p < 3 → stake s ≡ 0 → stake (guestAt s p) ≡ 0) → seatedFirst s ≡ true
+unfolding seatedFirst
+facts-seated s f =
+    or-unless (isStaked s) _ (λ idle.
+    ap not (guest-none isStaked s (λ p h. le-ltb 0 (stake (guestAt s p)) (omega (arith, f p h (omega (arith, ltb-false 0 (stake s) idle)))))))
+
+-- A seat.
+pub seat-facts : (o : Options) (inRound : Bool) (up i : ℕ) (s : Seat) → soundSeat o inRound up i s ≡ true → SoundSeat o inRound up i s
+unfolding soundSeat
+seat-facts o inRound up i s e =
+    let test = and-at (eachGuest (soundGuest o inRound up i) s ∷ seatedFirst s ∷ soundHands o inRound up s ∷ []) e in
+    record {
+      guests = λ p h. guest-facts o inRound up i (guestAt s p) (each-guest (soundGuest o inRound up i) s (test 0) p h);
+      seated-first = seated-facts s (test 1);
+      waiting = waiting-facts o inRound up s (test 2);
+      playing = playing-facts o inRound up s (test 2);
+    }
+
+facts-seat : (o : Options) (inRound : Bool) (up i : ℕ) (s : Seat) → SoundSeat o inRound up i s → soundSeat o inRound up i s ≡ true
+unfolding soundSeat
+facts-seat o inRound up i s f =
+    simp (
+      guest-each (soundGuest o inRound up i) s (λ p h. facts-guest o inRound up i (guestAt s p) (f .guests p h)),
+      facts-seated s (f .seated-first),
+      facts-hands o inRound up s (f .waiting) (f .playing),
     )
 
 -- The bank.
@@ -310,8 +357,8 @@ most-many o inRound up i s most f = go (decLe (s .hands .many) 0)
 pub few-hands : (o : Options) (inRound : Bool) (up i : ℕ) (s : Seat) → o .hands ≤ 4 → SoundSeat o inRound up i s → length (hands s) ≤ 4
 few-hands o inRound up i s most f = simp (length-map, length-take) (omega (arith, most-many o inRound up i s most f))
 
--- a seat without a stake has no side stake
-pub no-sides : (o : Options) (inRound : Bool) (up i : ℕ) (s : Seat) → SoundSeat o inRound up i s → stake s ≡ 0 → (k : ℕ) → k < 4 → getD (sides s) k 0 ≡ 0
+-- a guest without a stake has no side stake
+pub no-sides : (o : Options) (inRound : Bool) (up i : ℕ) (s : Seat) → SoundGuest o inRound up i s → stake s ≡ 0 → (k : ℕ) → k < 4 → getD (sides s) k 0 ≡ 0
 no-sides o inRound up i s f none k h = go (decLe (getD (sides s) k 0) 0)
   where
     go : Dec (getD (sides s) k 0 ≤ 0) → getD (sides s) k 0 ≡ 0
@@ -334,3 +381,55 @@ no-prizes o s none = rw none
 pub cards-left : (t : Table) → length (t .shoe .order) ≡ 416 → Sound t → length (tableShoe t) ≡ cardsLeft t
 cards-left t full sound =
     length-drop (t .shoe .drawn) (tableOrder t) ∙ omega (arith, length-take (52 * t .options .decks) (t .shoe .order), decks-416 t sound)
+
+-- a guest is sound where one with the same money and the same hands is
+sound-beside : (o : Options) (inRound : Bool) (up i : ℕ) (s : Seat) (others : List Money) (first : List ℕ) → SoundGuest o inRound up i s → SoundGuest o inRound up i (makeSeat (s .money) others (s .hands) first)
+unfolding laid prizes
+sound-beside o inRound up i s others first f =
+    record {
+      beyond = λ h. nothing (f .beyond h);
+      stake-fits = f .stake-fits;
+      insured = λ some. insured (f .insured some);
+      sides-fit = f .sides-fit;
+      prizes-back = f .prizes-back;
+    }
+  where
+    r : Seat
+    r = makeSeat (s .money) others (s .hands) first
+
+    nothing : HoldsNothing s → HoldsNothing r
+    nothing n =
+        let none = n .no-bets in
+        record { no-purse = n .no-purse; no-bets = record { no-stake = none .no-stake; no-insurance = none .no-insurance; no-sides = none .no-sides }; no-hands = n .no-hands }
+
+    insured : Insured o inRound up s → Insured o inRound up r
+    insured n = record { in-round = n .in-round; ace-up = n .ace-up; staked = n .staked; permitted = n .permitted }
+
+pub sound-alike : (o : Options) (inRound : Bool) (up i : ℕ) (r s : Seat) → r .money ≡ s .money → r .hands ≡ s .hands → SoundGuest o inRound up i s → SoundGuest o inRound up i r
+sound-alike o inRound up i r s money hands f =
+    subst (SoundGuest o inRound up i) (λ j. makeSeat (sym money j) (r .others) (sym hands j) (r .first)) (sound-beside o inRound up i s (r .others) (r .first) f)
+
+-- a guest without money, as in a position or at a seat that is not there
+pub no-money : (s : Seat) → s .money ≡ missingMoney → (purse s ≡ 0) × NoBets s
+no-money s none = (
+  ap (λ (m : Money). m .purse) none,
+  record { no-stake = ap (λ (m : Money). m .stake) none; no-insurance = ap (λ (m : Money). m .insurance) none; no-sides = λ k l. ap (λ (m : Money). getD (m .sides) k 0) none },
+)
+
+-- a guest without a stake wins no prize, and one with nothing on the layout has laid nothing
+pub unstaked-prizes : (o : Options) (s : Seat) → stake s ≡ 0 → prizes o s ≡ 0
+unfolding prizes
+unstaked-prizes o s none =
+    sum-none (prize o (stake s)) (hands s) (playedOf missingPlace) (λ k h. omega (arith, prize-most o (stake s) (getD (hands s) k (playedOf missingPlace))))
+
+pub nothing-laid : (s : Seat) → NoBets s → laid s ≡ 0
+unfolding laid
+nothing-laid s n =
+    omega (arith, main (eqb (length (hands s)) 0), n .no-sides 0 (omega arith), n .no-sides 1 (omega arith), n .no-sides 2 (omega arith), n .no-sides 3 (omega arith))
+  where
+    wagers : sumOf (wager (stake s)) (hands s) ≡ 0
+    wagers = sum-none (wager (stake s)) (hands s) (playedOf missingPlace) (λ k h. omega (arith, n .no-stake, wager-bounds (stake s) (getD (hands s) k (playedOf missingPlace)) .1))
+
+    main : (b : Bool) → cond b (stake s) (sumOf (wager (stake s)) (hands s) + insurance s) ≡ 0
+    main true = n .no-stake
+    main false = omega (arith, wagers, n .no-insurance)

@@ -13,7 +13,7 @@ use Rattle.options.proofs.Facts.{in-range-facts}
 use Rattle.table.specs.declared.Seat.{Seat}
 use Rattle.table.specs.declared.Shoe.{Shoe}
 use Rattle.table.specs.declared.Table.{Table}
-use Rattle.table.specs.Seat.{missingSeat, purse, isStaked, laid, prizes, seatCards, seatCover}
+use Rattle.table.specs.Seat.{missingSeat, overGuests, purse, isStaked, laid, prizes, seatCards, seatCover}
 use Rattle.table.specs.Shoe.{discardsOf}
 use Rattle.table.specs.Table.{makeTable, seatAt, isDealt, up, bankCards, tableDrawn, tableShoe, tableDiscards}
 use Rattle.table.specs.Money.{mostMoney, allMoney}
@@ -36,10 +36,10 @@ pub record SeatChange (t : Table) (j tray : ℕ) (s : Seat) (shoe : Shoe) (k cam
   pub shaped-seat : ShapedSeat s
   pub sound-seat : SoundSeat (t .options) (isDealt t) (up t) j s
   pub same-staked : isDealt t ≡ true → isStaked s ≡ isStaked (seatAt t j)
-  pub same-cover : isDealt t ≡ true → seatCover s ≡ seatCover (seatAt t j)
-  pub paid : tray + laid s + purse s + went ≡ t .tray + laid (seatAt t j) + purse (seatAt t j) + came
+  pub same-cover : isDealt t ≡ true → overGuests seatCover s ≡ overGuests seatCover (seatAt t j)
+  pub paid : tray + overGuests laid s + overGuests purse s + went ≡ t .tray + overGuests laid (seatAt t j) + overGuests purse (seatAt t j) + came
   pub in-limit : allMoney t + came ≤ mostMoney + went
-  pub prizes-paid : isDealt t ≡ true → tray + prizes (t .options) s ≡ t .tray + prizes (t .options) (seatAt t j)
+  pub prizes-paid : isDealt t ≡ true → tray + overGuests (prizes (t .options)) s ≡ t .tray + overGuests (prizes (t .options)) (seatAt t j)
   pub same-order : shoe .order ≡ t .shoe .order
   pub same-discards : shoe .discards ≡ t .shoe .discards
   pub same-discarded : shoe .discarded ≡ t .shoe .discarded
@@ -68,7 +68,7 @@ module _ (t : Table) (j tray : ℕ) (s : Seat) (shoe : Shoe) (k came went : ℕ)
   }
 
   pub change-money : allMoney (changed t j tray s shoe) + went ≡ allMoney t + came
-  change-money = omega (arith, over-seats laid, over-seats purse)
+  change-money = omega (arith, over-seats (overGuests laid), over-seats (overGuests purse), ch .paid)
 
   -- whatever is summed over cards, what is drawn now comes to the cards that are out and to the drawn part of the order
   out-cards : (w : ℕ → ℕ) → sumOf w (outCards (changed t j tray s shoe)) ≡ sumOf w (outCards t) + sumOf w (take k (tableShoe t))
@@ -99,5 +99,5 @@ module _ (t : Table) (j tray : ℕ) (s : Seat) (shoe : Shoe) (k came went : ℕ)
     bank = sound .bank;
     round = λ dealt. any-set isStaked (t .seats) j s missingSeat (ch .same-staked dealt) ∙ sound .round dealt;
     money = omega (arith, change-money);
-    cover = λ dealt. omega (arith, over-seats seatCover, over-seats (prizes (t .options)), ch .same-cover dealt, ch .prizes-paid dealt, sound .cover dealt);
+    cover = λ dealt. omega (arith, over-seats (overGuests seatCover), over-seats (overGuests (prizes (t .options))), ch .same-cover dealt, ch .prizes-paid dealt, sound .cover dealt);
   }

@@ -21,7 +21,8 @@ use Rattle.rules.specs.OpenCalls.{evenOpen, fiveOpen}
 use Rattle.table.specs.declared.Seat.{Seat}
 use Rattle.table.specs.declared.Shoe.{Shoe}
 use Rattle.table.specs.declared.Table.{Table}
-use Rattle.table.specs.Seat.{purse, stake, insurance, sides, isStaked, laid, prizes}
+use Rattle.table.specs.Guest.{isNobody}
+use Rattle.table.specs.Seat.{anyGuest, eachGuest, purse, stake, insurance, sides, isStaked, laid, prizes}
 use Rattle.table.specs.Shoe.{validOrder, isFresh}
 use Rattle.table.specs.Table.{seatAt, isDealt, up, someStaked, tableOrder, tableDrawn}
 use Rattle.table.specs.Money.{mostMoney, allMoney, allPrizes, allCover}
@@ -55,9 +56,9 @@ unfoldable pub soundHand : Options → ℕ → ℕ → SeatHand → Bool
 soundHand o up many h =
     leb 2 (h .hand .count) && leb (h .hand .count) 20 && couldBePlayed (cardsOf (h .hand)) && soundOrigin many (playedOf h) && soundEnding o up many (playedOf h)
 
--- A seat beyond the option holds nothing.
+-- A guest of a seat beyond the option holds nothing.
 unfoldable pub soundNumber : Options → ℕ → Seat → Bool
-soundNumber o i s = ltb i (o .seats) || (eqb (purse s) 0 && eqb (stake s) 0 && eqb (insurance s) 0 && allBelow (λ k. eqb (getD (sides s) k 0) 0) 4 && eqb (s .hands .many) 0)
+soundNumber o i s = ltb i (o .seats) || (isNobody (s .money) && eqb (s .hands .many) 0)
 
 -- A stake is 0 or permitted; an insurance is 0, or permitted for the stake with an ace up in a dealt round.
 unfoldable pub soundStake : Options → Seat → Bool
@@ -77,13 +78,21 @@ soundHands o inRound up s =
     eqb (s .hands .many) 0 && not (inRound && isStaked s)
     || ltb 0 (s .hands .many) && leb (s .hands .many) (o .hands) && inRound && isStaked s && allOf (soundHand o up (s .hands .many)) (take (s .hands .many) (s .hands .places))
 
--- A void can take a seat's prizes back: they are within its purse and what it laid.
+-- A void can take a guest's prizes back: they are within the purse and what was laid.
 unfoldable pub soundPrizes : Options → Seat → Bool
 soundPrizes o s = leb (prizes o s) (purse s + laid s)
 
+-- A guest of the seat of number i.
+unfoldable pub soundGuest : Options → Bool → ℕ → ℕ → Seat → Bool
+soundGuest o inRound up i s = soundNumber o i s && soundStake o s && soundInsurance o inRound up s && soundSides s && soundPrizes o s
+
+-- The seated guest stakes first (request 2.8).
+unfoldable pub seatedFirst : Seat → Bool
+seatedFirst s = isStaked s || not (anyGuest isStaked s)
+
 -- The seat of number i.
 unfoldable pub soundSeat : Options → Bool → ℕ → ℕ → Seat → Bool
-soundSeat o inRound up i s = soundNumber o i s && soundStake o s && soundInsurance o inRound up s && soundSides s && soundHands o inRound up s && soundPrizes o s
+soundSeat o inRound up i s = eachGuest (soundGuest o inRound up i) s && seatedFirst s && soundHands o inRound up s
 
 abbrev pub seatSound : Table → ℕ → Bool
 seatSound t i = soundSeat (t .options) (isDealt t) (up t) i (seatAt t i)

@@ -1,7 +1,10 @@
 -- Document 01, "The seventeen calls", the guest, and request 2.6: a guest's money, and how a call moves it. Nothing else says which fields it has.
-use mathlib.Core.List.{[]}
+use mathlib.Core.Bool.{Bool, _&&_}
+use mathlib.Core.List.{List, []}
 use Prim.Native.Nat.{ℕ, _-_}
-use lib.ListN.{set, replicate}
+use lib.Dec.{eqb}
+use lib.ListN.{getD, set, replicate}
+use Rattle.lists.specs.Below.{allBelow}
 use Rattle.table.specs.declared.Money.{Money}
 
 -- Nothing but a purse.
@@ -11,6 +14,14 @@ holding purse = record { purse = purse; stake = 0; insurance = 0; sides = replic
 -- What stands where the table has no such seat.
 abbrev pub missingMoney : Money
 missingMoney = record { purse = 0; stake = 0; insurance = 0; sides = [] }
+
+-- Nobody: no purse and nothing laid.
+abbrev pub isNobody : Money → Bool
+isNobody m = eqb (m .purse) 0 && eqb (m .stake) 0 && eqb (m .insurance) 0 && allBelow (λ k. eqb (getD (m .sides) k 0) 0) 4
+
+-- Nobody in either of the two positions beside the seated guest's.
+abbrev pub nobodyIn : List Money → Bool
+nobodyIn others = isNobody (getD others 0 missingMoney) && isNobody (getD others 1 missingMoney)
 
 -- The same with another purse.
 abbrev pub withPurse : Money → ℕ → Money

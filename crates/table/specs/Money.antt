@@ -1,10 +1,10 @@
--- Document 01, "House options" (all money on the table is at most 10^15) and "Payment": the money on the table, as sums over the seats.
+-- Document 01, "House options" (all money on the table is at most 10^15) and "Payment": the money on the table, as sums over the seats and their guests (request 2.8).
 use mathlib.Core.Bool.{Bool}
 use Prim.Native.Nat.{ℕ, _+_}
 use lib.Dec.{ltb}
 use Rattle.lists.specs.Sum.{sumOf}
 use Rattle.table.specs.declared.Table.{Table}
-use Rattle.table.specs.Seat.{purse, laid, prizes, seatCover}
+use Rattle.table.specs.Seat.{overGuests, purse, laid, prizes, seatCover}
 
 -- All money on the table is at most 10^15.
 abbrev pub mostMoney : ℕ
@@ -12,10 +12,10 @@ mostMoney = 1000000000000000
 
 -- What lies on the layout, and what is in the purses.
 abbrev pub layout : Table → ℕ
-layout t = sumOf laid (t .seats)
+layout t = sumOf (overGuests laid) (t .seats)
 
 abbrev pub purses : Table → ℕ
-purses t = sumOf purse (t .seats)
+purses t = sumOf (overGuests purse) (t .seats)
 
 abbrev pub allMoney : Table → ℕ
 allMoney t = t .tray + layout t + purses t
@@ -26,7 +26,7 @@ pastMostMoney t n = ltb mostMoney (allMoney t + n)
 
 -- The prizes paid in this round, and what the tray must hold at the deal: 32 × all stakes and what the side stakes can win.
 abbrev pub allPrizes : Table → ℕ
-allPrizes t = sumOf (prizes (t .options)) (t .seats)
+allPrizes t = sumOf (overGuests (prizes (t .options))) (t .seats)
 
 abbrev pub allCover : Table → ℕ
-allCover t = sumOf seatCover (t .seats)
+allCover t = sumOf (overGuests seatCover) (t .seats)

@@ -4,12 +4,13 @@ use Prim.Native.Nat.{ℕ, _<_}
 use lib.ListN.{length, getD}
 use Rattle.table.specs.declared.Seat.{Seat}
 use Rattle.table.specs.declared.Table.{Table}
-use Rattle.table.specs.Seat.{missingPlace}
+use Rattle.table.specs.Seat.{missingPlace, guestAt}
 use Rattle.table.specs.Table.{seatAt}
 
 pub record ShapedSeat (s : Seat) : Type 0 where
   pub four-places : length (s .hands .places) ≡ 4
-  pub four-sides : length (s .money .sides) ≡ 4
+  pub two-others : length (s .others) ≡ 2
+  pub four-sides : (p : ℕ) → p < 3 → length (guestAt s p .money .sides) ≡ 4
   pub three-first : length (s .first) ≡ 3
   pub twenty-cards : (p : ℕ) → p < 4 → length (getD (s .hands .places) p missingPlace .hand .cards) ≡ 20
 

@@ -14,7 +14,7 @@ use Rattle.table.specs.declared.Seat.{Seat}
 use Rattle.table.specs.declared.Shoe.{Shoe}
 use Rattle.table.specs.declared.Table.{Table}
 use Rattle.table.specs.Guest.{withPurse}
-use Rattle.table.specs.Seat.{withMoney, missingSeat, isStaked, hands, seatCards}
+use Rattle.table.specs.Seat.{missingSeat, guestAt, withGuest, isStaked, hands, seatCards}
 use Rattle.table.specs.Shoe as Shoes
 
 abbrev pub makeTable : Options → ℕ → List Seat → Hand → Shoe → Table
@@ -34,13 +34,17 @@ withShoe t shoe = makeTable (t .options) (t .tray) (t .seats) (t .bank) shoe
 abbrev pub seatAt : Table → ℕ → Seat
 seatAt t i = getD (t .seats) i missingSeat
 
+-- The guest in that position of it (request 2.8).
+abbrev pub guestOf : Table → ℕ → ℕ → Seat
+guestOf t i p = guestAt (seatAt t i) p
+
 -- 8: no such seat. The option says how many there are.
 abbrev pub noSuchSeat : Table → ℕ → Bool
 noSuchSeat t j = leb (t .options .seats) j
 
--- The table with another purse for that seat.
-abbrev pub withPurseAt : Table → ℕ → ℕ → Table
-withPurseAt t j p = withSeat t j (withMoney (seatAt t j) (withPurse (seatAt t j .money) p))
+-- The table with another purse of that guest.
+abbrev pub withPurseAt : Table → ℕ → ℕ → ℕ → Table
+withPurseAt t j p purse = withSeat t j (withGuest (seatAt t j) p (withPurse (guestOf t j p .money) purse))
 
 -- The hands of each seat, by seat and place.
 abbrev pub seatsHands : Table → List (List Played)

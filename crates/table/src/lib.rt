@@ -11,9 +11,11 @@ pub struct Money {
     pub sides: [u32; 4],
 }
 
-// A seat: its guest's money, its hands, and copies of its first two cards and of the first card that its first split drew: side stakes are paid by them.
+// A seat: the money of the seated guest and that of two others who bet on it, its hands, and copies of its first two cards and of the first card that its first
+// split drew: side stakes are paid by them.
 pub struct Seat {
     pub money: Money,
+    pub others: [Money; 2],
     pub hands: SeatHands,
     pub first: [u8; 3],
 }

@@ -50,6 +50,7 @@ pub(crate) fn house(letter: u8) -> Options {
         five: on(letter, b'f'),
         prize: on(letter, b'p'),
         device: 1,
+        decider: 1,
         cut: 0,
         smallest: 2,
         largest: 100,

@@ -8,7 +8,9 @@ surveyed-requires : tie.Need-surveyed-requires
 surveyed-requires c κs = search needs
 
 bank-sound-requires : tie.Need-bank-sound-requires
-bank-sound-requires c κs = c .before .before .surveyed .ensures .sums (c .if1 .taken)
+bank-sound-requires c κs =
+    let pass = c .before .before .surveyed .ensures in
+    (pass .sums (c .if1 .taken), sym (pass .each) ∙ c .if1 .taken)
 
 money-sound-requires : tie.Need-money-sound-requires
 money-sound-requires c κs = c .before .before .before .before .surveyed .ensures .sums (c .before .before .if1 .taken)

@@ -2,7 +2,7 @@
 use mathlib.Core.Path.{_≡_, refl, sym, ap, _∙_}
 use mathlib.Core.Bool.{Bool, true, false, true≢false}
 use mathlib.Core.List.{List}
-use Prim.Native.Nat.{ℕ, _-_, _≤_}
+use Prim.Native.Nat.{ℕ, _-_, _*_, _≤_}
 use native.Mathlib.Omega.{arith}
 use borrow.Author.Needs.{needs}
 use borrow.Author.Tests.{not-true, not-false}
@@ -19,7 +19,8 @@ use Rattle.table.specs.Table.{isDealt, up}
 use Rattle.table.specs.Broken.{soundSeat, seatSound}
 use Rattle.money.specs.Sums.{sumsOver}
 use Rattle.money.specs.SumsFit.{SumsFit}
-use Rattle.money.proofs.sums.Pass.{next-seat, within-more}
+use Rattle.money.proofs.sums.Pass.{next-seat, fits-in, no-guests-fit, three-more}
+use Rattle.broken.proofs.seat.Guests.{survey-fits}
 use Rattle.broken.proofs.surveyed.Statement.{statement}
 use Rattle.broken.proofs.surveyed.Tie as tie
 
@@ -29,7 +30,7 @@ passes o dealt card seats i = soundSeat o dealt card i (getD seats i missingSeat
 
 abbrev Inv-loop : tie.InvT-loop
 Inv-loop o dealt card sums₀ seats i₀ sums i =
-    (i ≤ 9) × (allBelow (passes o dealt card seats) i ≡ true) × (sums ≡ sumsOver o (take i seats)) × SumsFit i sums
+    (i ≤ 9) × (allBelow (passes o dealt card seats) i ≡ true) × (sums ≡ sumsOver o (take i seats)) × SumsFit (3 * i) sums
 
 abbrev μ-loop : tie.MeasureT-loop
 μ-loop o dealt card sums₀ seats i₀ sums i = 9 - i
@@ -52,9 +53,14 @@ is-dealt-requires c κs = search needs
 up-requires : tie.Need-up-requires Inv-loop μ-loop
 up-requires c κs = search needs
 
+no-sums-requires : tie.Need-no-sums-requires Inv-loop μ-loop
+no-sums-requires c κs = search needs
+
 loop-holds : tie.Need-loop-holds Inv-loop μ-loop
 unfolding allBelow sumOf
-loop-holds c = search needs
+loop-holds c =
+    let none = c .before .no-sums .ensures in
+    (omega arith, refl, none, rw none no-guests-fit)
 
 mul-s : tie.Need-mul-s Inv-loop μ-loop
 mul-s c = search needs
@@ -62,28 +68,29 @@ mul-s c = search needs
 array-copy-out-s : tie.Need-array-copy-out-s Inv-loop μ-loop
 array-copy-out-s c = search needs
 
-seat-sums-requires : tie.Need-seat-sums-requires Inv-loop μ-loop
-seat-sums-requires c κs = search needs
-
-sound-seat-requires : tie.Need-sound-seat-requires Inv-loop μ-loop
-sound-seat-requires c κs = c .seat-sums .ensures .0
+surveyed-seat-requires : tie.Need-surveyed-seat-requires Inv-loop μ-loop
+surveyed-seat-requires c κs = search needs
 
 returns : tie.Need-returns Inv-loop μ-loop
 returns c =
     let at = c .before .before .before .before .before in
-    let start = at .before .before .before .before .before in
+    let start = at .before .before .before .before .before .before in
     let t = start .args .t in
-    let card = at .before .before .up in
-    let dealt = at .before .before .before .is-dealt in
+    let card = at .before .before .before .up in
+    let dealt = at .before .before .before .before .is-dealt in
+    let one = c .before .before .surveyed-seat in
     record {
       each =
-          fails (passes (t .options) (dealt .result) (card .result) (t .seats)) (at .loop .i) (omega arith) (sym (c .before .sound-seat .ensures) ∙ not-true _ (c .if1 .taken))
+          fails (passes (t .options) (dealt .result) (card .result) (t .seats)) (at .loop .i) (omega arith) (sym (one .ensures .sound) ∙ not-true (one .result .sound) (c .if1 .taken))
           ∙ same t (card .result) (dealt .result) (dealt .ensures) (card .ensures);
       sums = λ e. absurd (true≢false (sym e));
     }
 
 plus-requires : tie.Need-plus-requires Inv-loop μ-loop
-plus-requires c κs = search needs
+plus-requires c κs =
+    let at = c .before .before .before .before .before in
+    let one = c .before .before .surveyed-seat in
+    (fits-in (3 * at .loop .i) 27 (at .loop .sums) (omega arith) (at .loop .inv .3), survey-fits _ _ 3 27 (one .result) (omega arith) (one .ensures))
 
 add-i : tie.Need-add-i Inv-loop μ-loop
 add-i c = search needs
@@ -94,26 +101,27 @@ loop-less c = search needs
 loop-again : tie.Need-loop-again Inv-loop μ-loop
 loop-again c =
     let at = c .before .before .before .before .before .before in
-    let start = at .before .before .before .before .before in
+    let start = at .before .before .before .before .before .before in
     let t = start .args .t in
-    let card = at .before .before .up in
-    let dealt = at .before .before .before .is-dealt in
+    let card = at .before .before .before .up in
+    let dealt = at .before .before .before .before .is-dealt in
     let i = at .loop .i in
     let full : length (t .seats) ≡ 9 = simp length-map at (start .good .0 .1 .1 .1 .1 .0 .1 .0 .1) in
-    let m = c .before .before .before in (
+    let one = c .before .before .before .surveyed-seat in
+    let m = one .result .sums in (
       omega arith,
-      below-passes (passes (t .options) (dealt .result) (card .result) (t .seats)) i (sym (c .before .before .sound-seat .ensures) ∙ not-false _ (c .before .if1 .left)) ∙ at .loop .inv .1,
-      c .plus .ensures ∙ next-seat (t .options) (t .seats) i (omega arith) (at .loop .sums) (m .seat-sums .result) (at .loop .inv .2) (m .seat-sums .ensures .0),
-      within-more i (at .loop .sums) (m .seat-sums .result) (c .plus .result) (at .loop .inv .3) (m .seat-sums .ensures .1) (c .plus .ensures),
+      below-passes (passes (t .options) (dealt .result) (card .result) (t .seats)) i (sym (one .ensures .sound) ∙ not-false (one .result .sound) (c .before .if1 .left)) ∙ at .loop .inv .1,
+      c .plus .ensures ∙ next-seat (t .options) (t .seats) i (omega arith) (at .loop .sums) m (at .loop .inv .2) (one .ensures .sums),
+      three-more i (at .loop .sums) m (c .plus .result) (at .loop .inv .3) (survey-fits _ _ 3 3 (one .result) (omega arith) (one .ensures)) (c .plus .ensures),
     )
 
 returns-2 : tie.Need-returns-2 Inv-loop μ-loop
 returns-2 c =
     let at = c .before in
-    let start = at .before .before .before .before .before in
+    let start = at .before .before .before .before .before .before in
     let t = start .args .t in
-    let card = at .before .before .up in
-    let dealt = at .before .before .before .is-dealt in
+    let card = at .before .before .before .up in
+    let dealt = at .before .before .before .before .is-dealt in
     let full : length (t .seats) ≡ 9 = simp length-map at (start .good .0 .1 .1 .1 .1 .0 .1 .0 .1) in
     let nine : at .loop .i ≡ 9 = omega arith in
     record {
@@ -129,11 +137,11 @@ surveyed-spec =
     μ-loop
     is-dealt-requires
     up-requires
+    no-sums-requires
     loop-holds
     mul-s
     array-copy-out-s
-    seat-sums-requires
-    sound-seat-requires
+    surveyed-seat-requires
     returns
     plus-requires
     add-i

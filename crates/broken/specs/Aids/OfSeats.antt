@@ -5,7 +5,7 @@ use Rattle.lists.specs.Below.{allBelow}
 use Rattle.table.specs.declared.Table.{Table}
 use Rattle.table.specs.Broken.{seatSound}
 use Rattle.money.specs.Sums.{tableSums}
-use Rattle.broken.specs.declared.Survey.{Survey}
+use Rattle.broken.specs.declared.seat.Survey.{Survey}
 
 pub record OfSeats (t : Table) (v : Survey) : Type 0 where
   pub each : v .sound ≡ allBelow (seatSound t) 9

@@ -25,9 +25,9 @@ lines-none names nets at behind e = record { names-are = refl; nets-are = refl; 
 
 module _ {names names-then : List ℕ} {nets nets-then : List ℤ} {at behind : ℕ} where
   -- one line, as it is put
-  pub line-put : (seat : ℕ) (d : Due) (name : ℕ) (p : Pay) → names-then ≡ set names at name → name ≡ lineName seat (d .place) (d .kind)
-      → nets-then ≡ set nets at (net p) → p ≡ d .pay → behind ≡ at + 1 → LinesAt names nets at (lineOf seat d ∷ []) names-then nets-then behind
-  line-put seat d name p named name-is paid pay-is e =
+  pub line-put : (seat position : ℕ) (d : Due) (name : ℕ) (p : Pay) → names-then ≡ set names at name → name ≡ lineName seat position (d .place) (d .kind)
+      → nets-then ≡ set nets at (net p) → p ≡ d .pay → behind ≡ at + 1 → LinesAt names nets at (lineOf seat position d ∷ []) names-then nets-then behind
+  line-put seat position d name p named name-is paid pay-is e =
       record { names-are = named ∙ ap (set names at) name-is; nets-are = paid ∙ ap (λ (x : Pay). set nets at (net x)) pay-is; behind-is = e }
 
   -- the same lines and the same place behind them, said in another way

@@ -1,35 +1,61 @@
 -- The seats at the end of a round: what a sound table's purses can take, and a walk that stores a new seat in each place, of which the first i are
 -- as if mapped.
 use mathlib.Core.Path.{_≡_, refl, sym, _∙_, ap, ap₂}
+use mathlib.Core.Bool.{true}
 use mathlib.Core.List.{List, _++_, map, append-nil}
-use Prim.Native.Nat.{ℕ, _+_, _<_}
+use Prim.Native.Nat.{ℕ, zero, suc, _+_, _≤_, _<_}
 use native.Mathlib.Omega.{arith}
 use lib.ListN.{length, take, drop, set, length-map, List·getD-map}
 use lib.Seq.{take-all, drop-length}
 use Rattle.lists.proofs.Sums.{sum-has}
 use Rattle.lists.proofs.Stores.{copy-next}
 use Rattle.options.specs.declared.Options.{Options}
+use Rattle.table.specs.declared.Money.{Money}
 use Rattle.table.specs.declared.Seat.{Seat}
 use Rattle.table.specs.declared.Table.{Table}
-use Rattle.table.specs.Seat.{clearedSeat, missingSeat, purse, laid}
-use Rattle.table.specs.Table.{withSeat, seatAt}
+use Rattle.table.specs.Guest.{isNobody}
+use Rattle.table.specs.Seat.{clearedSeat, missingSeat, guestAt, overGuests, purse, laid}
+use Rattle.table.specs.Table.{withSeat, seatAt, guestOf}
 use Rattle.table.specs.Aids.WithSeats.{withSeats}
 use Rattle.table.specs.Aids.Sound.{Sound}
+use Rattle.table.proofs.Facts.{nothing-facts, nothing-laid}
+use Rattle.close_spec.proofs.Back.{nothing-back}
 use Rattle.close.specs.declared.seats.Ending.{Ending}
 use Rattle.close.specs.declared.seats.Ending.the-variants.{Void, Paid}
-use Rattle.close.specs.Aids.Ended.{Endable, endedSeat}
+use Rattle.close.specs.Aids.Ended.{Endable, endedPurse, endedSeat}
 
--- a seat keeps nothing but its purse
-pub ended-is : (o : Options) (ending : Ending) (s : Seat) → clearedSeat (purse (endedSeat o ending s)) ≡ endedSeat o ending s
+-- its guests keep nothing but their purses
+pub ended-is : (o : Options) (ending : Ending) (s : Seat) → clearedSeat (λ p. endedPurse o ending (guestAt s p)) ≡ endedSeat o ending s
 ended-is o Void s = refl
 ended-is o (Paid bank) s = refl
 
-pub endable : (t : Table) → Sound t → length (t .seats) ≡ 9 → (i : ℕ) → i < 9 → Endable (t .options) (seatAt t i)
-endable t sound nine i h =
+-- and one who has nothing has nothing then
+pub passed-over : (o : Options) (ending : Ending) (s : Seat) (m : Money) → m ≡ s .money
+    → isNobody m ≡ true
+    → endedPurse o ending s ≡ 0
+passed-over o Void s m same empty = let (none, bets) = nothing-facts s (rw same at empty) in omega (arith, none, nothing-laid s bets)
+passed-over o (Paid bank) s m same empty = let (none, bets) = nothing-facts s (rw same at empty) in omega (arith, none, nothing-back o bank s bets)
+
+pub endable : (t : Table) → Sound t → length (t .seats) ≡ 9 → (i : ℕ) → i < 9 → (p : ℕ) → p < 3 → Endable (t .options) (guestOf t i p)
+endable t sound nine i h p l =
     record {
-      within = sound .seats i h .prizes-back;
-      limit = omega (arith, sum-has purse (t .seats) i missingSeat (omega arith), sum-has laid (t .seats) i missingSeat (omega arith), sound .money);
+      within = sound .seats i h .guests p l .prizes-back;
+      limit =
+          omega (
+            arith,
+            one-guest purse (seatAt t i) p l,
+            one-guest laid (seatAt t i) p l,
+            sum-has (overGuests purse) (t .seats) i missingSeat (omega arith),
+            sum-has (overGuests laid) (t .seats) i missingSeat (omega arith),
+            sound .money,
+          );
     }
+  where
+    one-guest : (f : Seat → ℕ) (s : Seat) (p : ℕ) → p < 3 → f (guestAt s p) ≤ overGuests f s
+    one-guest f s zero l = omega arith
+    one-guest f s (suc zero) l = omega arith
+    one-guest f s (suc (suc zero)) l = omega arith
+    one-guest f s (suc (suc (suc p))) l = absurd (omega arith)
 
 module _ (f : Seat → Seat) (t : Table) where
   -- the seats of which the first i are stored

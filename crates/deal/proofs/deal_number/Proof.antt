@@ -1,4 +1,6 @@
 -- The conditions are asked in the order of the list.
+use mathlib.Core.Path.{_≡_}
+use lib.ListN.{length, length-map}
 use borrow.Author.Needs.{needs}
 use Rattle.deal.proofs.Asked.{deal-asked}
 use Rattle.deal.proofs.deal_number.Statement.{statement}
@@ -47,8 +49,9 @@ returns c =
     let round = due .before .before .before .before in
     let summed = round .before in
     let start = summed .before .before .before .before in
+    let nine : length (start .args .t .seats) ≡ 9 = simp length-map at (start .good .0 .1 .1 .1 .1 .0 .1 .0 .1) in
     rw (c .asked6 .ensures, c .before .asked5 .ensures, c .before .before .asked4 .ensures, c .before .before .before .asked3 .ensures, c .before .before .before .before .asked2 .ensures, c .before .before .before .before .before .asked .ensures)
-    (deal-asked (start .args .t) (start .pre) (round .is-dealt .ensures) (summed .table-sums .ensures) (due .load-due .ensures) (summed .before .cards-left .ensures) (takes .deal-takes .ensures))
+    (deal-asked (start .args .t) nine (start .pre) (round .is-dealt .ensures) (summed .table-sums .ensures) (due .load-due .ensures) (summed .before .cards-left .ensures) (takes .deal-takes .ensures))
 
 pub deal-number-spec : {M : Type 1} → statement M
 deal-number-spec =

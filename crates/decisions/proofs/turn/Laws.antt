@@ -21,7 +21,7 @@ use Rattle.table.specs.declared.Seat.{Seat}
 use Rattle.table.specs.declared.Table.{Table}
 use Rattle.table.specs.Seat.{hands}
 use Rattle.table.specs.Table.{seatAt, up}
-use Rattle.answer.specs.Conditions.{seatConditions}
+use Rattle.answer.specs.Conditions.{seatConditions, guestConditions}
 use Rattle.decisions_spec.specs.Turn.{turnConditions}
 use Rattle.decisions_spec.proofs.Turn.{TurnAccepted, turn-accepted}
 use Rattle.decisions.specs.Aids.InTurn.{InTurn}
@@ -30,18 +30,18 @@ use Rattle.decisions.specs.Aids.InTurn.{InTurn}
 pub in-turn : (t : Table) (j : ℕ) → TurnAccepted t j → InTurn t j
 in-turn t j a = record { nine = a .acting .nine; waits = a .waits }
 
-module _ (t : Table) (j n : ℕ) (e : n ≡ first (turnConditions t j)) where
-  pub turn-refuses : (n ≡ 0 → ⊥) → (rest : List Condition) → n ≡ first (turnConditions t j ++ rest)
-  turn-refuses some rest = sym (first-before (turnConditions t j) rest n (sym e) some)
+module _ (t : Table) (j p n : ℕ) (e : n ≡ first (turnConditions t j p)) where
+  pub turn-refuses : (n ≡ 0 → ⊥) → (rest : List Condition) → n ≡ first (turnConditions t j p ++ rest)
+  turn-refuses some rest = sym (first-before (turnConditions t j p) rest n (sym e) some)
 
   module _ (none : n ≡ 0) where
-    pub turn-passes : (rest : List Condition) → first (turnConditions t j ++ rest) ≡ first rest
-    unfolding turnConditions seatConditions allOf
-    turn-passes rest = first-behind (turnConditions t j) rest refl (sym e ∙ none)
+    pub turn-passes : (rest : List Condition) → first (turnConditions t j p ++ rest) ≡ first rest
+    unfolding turnConditions guestConditions seatConditions allOf
+    turn-passes rest = first-behind (turnConditions t j p) rest refl (sym e ∙ none)
 
     pub turn-comes : InTurn t j
-    unfolding turnConditions seatConditions allOf
-    turn-comes = in-turn t j (turn-accepted t j [] refl (sym e ∙ none) .0)
+    unfolding turnConditions guestConditions seatConditions allOf
+    turn-comes = in-turn t j (turn-accepted t j p [] refl (sym e ∙ none) .0)
 
 -- the same of the seat and the up card as the code has read them
 pub read-waits : (t : Table) (j : ℕ) (card : ℕ) (s : Seat) → InTurn t j → card ≡ up t → s ≡ seatAt t j → seatWaits (t .options) card (hands s) ≡ true

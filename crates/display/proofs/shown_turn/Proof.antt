@@ -39,17 +39,26 @@ returns-2 c =
 place-in-turn-requires : tie.Need-place-in-turn-requires
 place-in-turn-requires c κs = search needs
 
+seat-at-requires : tie.Need-seat-at-requires
+seat-at-requires c κs = search (needs, c .before .if2 .left)
+
+decider-requires : tie.Need-decider-requires
+decider-requires c κs = search needs
+
 returns-3 : tie.Need-returns-3
 unfolding turnShown
 returns-3 c =
-    let seat = c .before .before in
+    let placed = c .before .before in
+    let seat = placed .before .before in
     let start = seat .before .before .before in
     let full : length (start .args .t .seats) ≡ 9 = simp length-map at (start .good .0 .1 .1 .1 .1 .0 .1 .0 .1) in
     rw (
       sym (seat .before .before .broken .ensures) ∙ seat .before .if1 .left,
-      waits-below (start .args .t) full _ (seat .seat-in-turn .ensures) ∙ lt-ltb _ _ (c .before .if2 .left),
+      waits-below (start .args .t) full _ (seat .seat-in-turn .ensures) ∙ lt-ltb _ _ (placed .before .if2 .left),
+      c .decider .ensures,
+      c .before .seat-at .ensures,
       seat .seat-in-turn .ensures,
-      c .place-in-turn .ensures,
+      placed .place-in-turn .ensures,
     )
 
 pub shown-turn-spec : {M : Type 1} → statement M
@@ -63,4 +72,6 @@ shown-turn-spec =
     nobody-requires-2
     returns-2
     place-in-turn-requires
+    seat-at-requires
+    decider-requires
     returns-3)

@@ -1,4 +1,4 @@
--- What an accepted split gives its effect: the seat has at most the option's hands, its purse pays, and the order has the two cards.
+-- What an accepted split gives its effect: the seat has at most the option's hands, its purses pay, and the order has the two cards.
 use mathlib.Core.Path.{_≡_}
 use Prim.Native.Nat.{ℕ}
 use native.Mathlib.Omega.{arith}

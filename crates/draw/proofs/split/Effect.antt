@@ -1,24 +1,25 @@
 -- A split as the code makes it, step by step.
 use mathlib.Core.Path.{_≡_}
-use mathlib.Core.List.{List}
-use Prim.Native.Nat.{ℕ, _+_, _-_}
+use mathlib.Core.List.{List, map}
+use Prim.Native.Nat.{ℕ, _+_}
 use lib.ListN.{getD}
 use Rattle.cards.specs.Hand.{cardsOf}
 use Rattle.rules.specs.declared.seat_hand.SeatHand.{SeatHand}
+use Rattle.table.specs.declared.Money.{Money}
 use Rattle.table.specs.declared.Seat.{Seat}
 use Rattle.table.specs.declared.Shoe.{Shoe}
 use Rattle.table.specs.declared.Table.{Table}
-use Rattle.table.specs.Guest.{withPurse}
-use Rattle.table.specs.Seat.{makeSeat, withMoney, purse, stake}
+use Rattle.table.specs.Seat.{makeSeat}
 use Rattle.table.specs.Shoe.{withDrawn}
 use Rattle.table.specs.Table.{seatAt, up, withSeat, withShoe}
 use Rattle.decisions_spec.specs.Card.{cardAhead}
-use Rattle.decisions_spec.specs.Split.{splitHand, splitPlaces, splitFirst, splitEffect}
+use Rattle.decisions_spec.specs.Split.{splitHand, splitPlaces, splitFirst, stakedAgain, splitEffect}
 use Rattle.draw.specs.Aids.Splits.{twoFor, splitSeat}
 
--- the seat: the purse, the first cards, the places, and the hand and its place as the code has read them
-pub same-two : (s : Seat) (first second : ℕ) {paid : Seat} {cards : List ℕ} {places : List SeatHand} {p q kept-first kept-second : ℕ} {h k parent new : SeatHand}
-    → paid ≡ withMoney s (withPurse (s .money) (purse s - stake s))
+-- the seat: its guests' money, the first cards, the places, and the hand and its place as the code has read them
+pub same-two : (s : Seat) (first second : ℕ) {seated : Money} {others : List Money} {cards : List ℕ} {places : List SeatHand} {p q kept-first kept-second : ℕ} {h k parent new : SeatHand}
+    → seated ≡ stakedAgain (s .money)
+    → others ≡ map stakedAgain (s .others)
     → cards ≡ splitFirst s first
     → places ≡ splitPlaces (s .hands .places) p parent new
     → parent ≡ splitHand kept-first first
@@ -27,10 +28,10 @@ pub same-two : (s : Seat) (first second : ℕ) {paid : Seat} {cards : List ℕ} 
     → kept-second ≡ getD (cardsOf (h .hand)) 1 0
     → p ≡ q
     → h ≡ k
-    → makeSeat (paid .money) (record { places = places; many = s .hands .many + 1 }) cards ≡ twoFor s q k first second
+    → makeSeat seated others (record { places = places; many = s .hands .many + 1 }) cards ≡ twoFor s q k first second
 unfolding twoFor
-same-two s first second pays keeps puts is-parent keeps-first is-new keeps-second same-place same-hand =
-    rw (pays, keeps, puts, is-parent, keeps-first, is-new, keeps-second, same-place, same-hand)
+same-two s first second is-seated are-others keeps puts is-parent keeps-first is-new keeps-second same-place same-hand =
+    rw (is-seated, are-others, keeps, puts, is-parent, keeps-first, is-new, keeps-second, same-place, same-hand)
 
 -- the table: that seat, with the seat and the up card as the code has read them, and the shoe with two cards drawn
 pub same-effect : (t : Table) (j : ℕ) {card first second : ℕ} {s next : Seat} {u : Table} {rest : Shoe}

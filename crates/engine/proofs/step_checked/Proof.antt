@@ -48,10 +48,12 @@ plain-arm t order names nets conditions effect {c} {d} {asked} {o} {scores} {r} 
     ∙ ap (λ (x : ReplyView). givenBy x names nets) (same ∙ ap (λ (x : Call). step t x order) (sym known))
 
 -- a side stake's kind is a number that close has not
-side-step : (t : Table) (at : At) (k n : ℕ) (order : List ℕ) → replyBy (sideConditions t (at .seat) k n) (scored []) (sideEffect t (at .seat) k n) t ≡ step t (Side at k n) order
+side-step : (t : Table) (at : At) (k n : ℕ) (order : List ℕ)
+    → replyBy (sideConditions t (at .seat) (at .position) k n) (scored []) (sideEffect t (at .seat) (at .position) k n) t ≡ step t (Side at k n) order
 unfolding step
 side-step t at k n order =
-    ap (λ (b : Bool). replyBy (sideConditions t (at .seat) k n) (cond b (closeShown t) (scored [])) (sideEffect t (at .seat) k n) t) (sym (ne-eqb (17 + k) 15 (λ same. omega arith)))
+    ap (λ (b : Bool). replyBy (sideConditions t (at .seat) (at .position) k n) (cond b (closeShown t) (scored [])) (sideEffect t (at .seat) (at .position) k n) t)
+    (sym (ne-eqb (17 + k) 15 (λ same. omega arith)))
 
 enum-known-c : tie.Need-enum-known-c
 enum-known-c c = search needs

@@ -15,10 +15,10 @@ use Rattle.options.proofs.all_within.Statement.{statement}
 use Rattle.options.proofs.all_within.Tie as tie
 
 abbrev Inv-loop : tie.InvT-loop
-Inv-loop rs i₀ i = (i ≤ 15) × (allOf within (take i rs) ≡ true)
+Inv-loop rs i₀ i = (i ≤ 16) × (allOf within (take i rs) ≡ true)
 
 abbrev μ-loop : tie.MeasureT-loop
-μ-loop rs i₀ i = 15 - i
+μ-loop rs i₀ i = 16 - i
 
 loop-holds : tie.Need-loop-holds Inv-loop μ-loop
 unfolding allOf
@@ -37,7 +37,7 @@ returns : tie.Need-returns Inv-loop μ-loop
 returns c =
     let rs = c .before .before .before .before .before .args .t1 in
     let i = c .before .before .before .before .loop .i in
-    let full : length rs ≡ 15 = search needs in
+    let full : length rs ≡ 16 = search needs in
     let inside : i < length rs = omega arith in
     let fails : within (getD rs i (range 0 0 0)) ≡ false = sym (c .before .within .ensures) ∙ not-true (c .before .within .result) (c .if1 .taken) in
     sym (all-not-at within rs i (range 0 0 0) inside fails)
@@ -52,7 +52,7 @@ loop-again : tie.Need-loop-again Inv-loop μ-loop
 loop-again c =
     let rs = c .before .before .before .before .before .args .t1 in
     let i = c .before .before .before .before .loop .i in
-    let full : length rs ≡ 15 = search needs in
+    let full : length rs ≡ 16 = search needs in
     let inside : i < length rs = omega arith in
     let here : within (getD rs i (range 0 0 0)) ≡ true = sym (c .before .within .ensures) ∙ not-false (c .before .within .result) (c .if1 .left) in
     (omega arith, rw (add-one, all-take within rs i (range 0 0 0), c .before .before .before .before .loop .inv .1, here))
@@ -60,7 +60,7 @@ loop-again c =
 returns-2 : tie.Need-returns-2 Inv-loop μ-loop
 returns-2 c =
     let rs = c .before .before .args .t1 in
-    let full : length rs ≡ 15 = search needs in
+    let full : length rs ≡ 16 = search needs in
     sym (c .before .loop .inv .1) ∙ ap (allOf within) (take-all (c .before .loop .i) rs (omega arith))
 
 pub all-within-spec : {M : Type 1} → statement M

@@ -41,6 +41,9 @@ small-requires-11 c κs = search needs
 small-requires-12 : tie.Need-small-requires-12
 small-requires-12 c κs = search needs
 
+small-requires-13 : tie.Need-small-requires-13
+small-requires-13 c κs = search needs
+
 most-decks-requires : tie.Need-most-decks-requires
 most-decks-requires c κs = search needs
 
@@ -68,30 +71,32 @@ range-requires-3 c κs = search needs
 returns : tie.Need-returns
 unfolding ranges
 returns c =
-    let twelve = c .before .before .before .before .before .before in
-    let eight = twelve .before .before .before .before in
-    let four = eight .before .before .before .before in
-    let two = four .before .before .before in
+    let thirteen = c .before .before .before .before .before .before in
+    let nine = thirteen .before .before .before .before in
+    let five = nine .before .before .before .before in
+    let three = five .before .before in
+    let two = three .before in
     simp (
       c .range3 .ensures,
       c .before .range2 .ensures,
       c .before .before .range .ensures,
       c .before .before .before .most-cut .ensures,
       c .before .before .before .before .least-cut .ensures,
-      twelve .small12 .ensures,
-      twelve .before .small11 .ensures,
-      twelve .before .before .small10 .ensures,
-      twelve .before .before .before .small9 .ensures,
-      eight .small8 .ensures,
-      eight .before .small7 .ensures,
-      eight .before .before .small6 .ensures,
-      eight .before .before .before .small5 .ensures,
-      four .small4 .ensures,
-      four .before .most-later .ensures,
-      four .before .before .small3 .ensures,
-      two .small2 .ensures,
-      two .before .most-decks .ensures,
-      two .before .before .small .ensures,
+      thirteen .small13 .ensures,
+      thirteen .before .small12 .ensures,
+      thirteen .before .before .small11 .ensures,
+      thirteen .before .before .before .small10 .ensures,
+      nine .small9 .ensures,
+      nine .before .small8 .ensures,
+      nine .before .before .small7 .ensures,
+      nine .before .before .before .small6 .ensures,
+      five .small5 .ensures,
+      five .before .small4 .ensures,
+      three .most-later .ensures,
+      two .small3 .ensures,
+      two .before .small2 .ensures,
+      two .before .before .most-decks .ensures,
+      two .before .before .before .small .ensures,
     )
 
 pub ranges-spec : {M : Type 1} → statement M
@@ -112,6 +117,7 @@ ranges-spec =
     small-requires-10
     small-requires-11
     small-requires-12
+    small-requires-13
     cast-range
     least-cut-requires
     most-cut-requires

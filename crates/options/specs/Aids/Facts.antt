@@ -25,6 +25,8 @@ pub record InRange (o : Options) : Type 0 where
   pub prize-most : o .prize ≤ 1
   pub device-least : 1 ≤ o .device
   pub device-most : o .device ≤ 3
+  pub decider-least : 1 ≤ o .decider
+  pub decider-most : o .decider ≤ 2
   pub box-decks : isBox o ≡ true → o .decks ≡ 1
   pub box-later : isBox o ≡ true → o .later ≡ 0
   pub cut-most : o .cut ≤ 26 * o .decks

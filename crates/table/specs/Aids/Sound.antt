@@ -13,7 +13,7 @@ use Rattle.options.specs.Ranges.{inRange}
 use Rattle.rules.specs.declared.seat_hand.SeatHand.{SeatHand}
 use Rattle.table.specs.declared.Seat.{Seat}
 use Rattle.table.specs.declared.Table.{Table}
-use Rattle.table.specs.Seat.{missingPlace, purse, stake, insurance, sides, laid, prizes}
+use Rattle.table.specs.Seat.{missingPlace, guestAt, purse, stake, insurance, sides, laid, prizes}
 use Rattle.table.specs.Shoe.{validOrder}
 use Rattle.rules.specs.SeatHand.{playedOf}
 use Rattle.table.specs.Broken.{soundOrigin, soundEnding}
@@ -44,23 +44,31 @@ pub record Playing (o : Options) (inRound : Bool) (up : ℕ) (s : Seat) : Type 0
   pub within : s .hands .many ≤ o .hands
   pub each : (p : ℕ) → p < s .hands .many → p < length (s .hands .places) → SoundHand o up (s .hands .many) (getD (s .hands .places) p missingPlace)
 
--- A seat that holds nothing.
-pub record HoldsNothing (s : Seat) : Type 0 where
-  pub no-purse : purse s ≡ 0
+-- A guest with nothing on the layout, and one who has no purse either, at a seat without hands.
+pub record NoBets (s : Seat) : Type 0 where
   pub no-stake : stake s ≡ 0
   pub no-insurance : insurance s ≡ 0
   pub no-sides : (k : ℕ) → k < 4 → getD (sides s) k 0 ≡ 0
+
+pub record HoldsNothing (s : Seat) : Type 0 where
+  pub no-purse : purse s ≡ 0
+  pub no-bets : NoBets s
   pub no-hands : s .hands .many ≡ 0
 
--- The seat of number i; `inRound` is whether a round is dealt, `up` the up card.
-pub record SoundSeat (o : Options) (inRound : Bool) (up i : ℕ) (s : Seat) : Type 0 where
+-- A guest of the seat of number i; `inRound` is whether a round is dealt, `up` the up card.
+pub record SoundGuest (o : Options) (inRound : Bool) (up i : ℕ) (s : Seat) : Type 0 where
   pub beyond : o .seats ≤ i → HoldsNothing s
   pub stake-fits : 0 < stake s → stakePermitted o (stake s) ≡ true
   pub insured : 0 < insurance s → Insured o inRound up s
   pub sides-fit : (k : ℕ) → k < 4 → 0 < getD (sides s) k 0 → (0 < stake s) × (getD (sides s) k 0 ≤ mostSide)
+  pub prizes-back : prizes o s ≤ purse s + laid s
+
+-- The seat of number i.
+pub record SoundSeat (o : Options) (inRound : Bool) (up i : ℕ) (s : Seat) : Type 0 where
+  pub guests : (p : ℕ) → p < 3 → SoundGuest o inRound up i (guestAt s p)
+  pub seated-first : (p : ℕ) → p < 3 → stake s ≡ 0 → stake (guestAt s p) ≡ 0
   pub waiting : s .hands .many ≡ 0 → inRound ≡ true → stake s ≡ 0
   pub playing : 0 < s .hands .many → Playing o inRound up s
-  pub prizes-back : prizes o s ≤ purse s + laid s
 
 pub record Sound (t : Table) : Type 0 where
   pub options : inRange (t .options) ≡ true

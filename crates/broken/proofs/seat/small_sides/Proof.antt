@@ -4,7 +4,7 @@ use lib.Dec.{leb}
 use lib.ListN.{getD}
 use Rattle.lists.specs.Below.{allBelow}
 use Rattle.options.specs.Permitted.{mostSide}
-use Rattle.broken.proofs.seat.Laws.{all-but-last}
+use Rattle.lists.proofs.Below.{all-but-last}
 use borrow.Author.Needs.{needs}
 use Rattle.broken.proofs.seat.small_sides.Statement.{statement}
 use Rattle.broken.proofs.seat.small_sides.Tie as tie

@@ -1,29 +1,29 @@
--- The conditions are asked in the order of the list: those of every call of a seat first.
-use mathlib.Core.Path.{refl, sym, _∙_}
+-- The conditions are asked in the order of the list: those of every call of a guest first.
+use mathlib.Core.Path.{_≡_, refl, sym, _∙_}
 use borrow.Author.Needs.{needs}
 use Rattle.call.specs.Refusal.{first}
-use Rattle.answer.proofs.conditions.Laws.{seat-asked, seat-refuses, seat-passes, seat-nine}
+use Rattle.answer.specs.Conditions.{betweenRounds, guestConditions}
+use Rattle.answer.proofs.conditions.Laws.{guest-asked, guest-refuses, guest-passes, guest-nine, guest-three}
 use Rattle.cashier_spec.specs.Cash.{cashConditions}
 use Rattle.cashier.proofs.cash.cash_number.Statement.{statement}
 use Rattle.cashier.proofs.cash.cash_number.Tie as tie
 
+-- the number of the conditions of every call of a guest
+early : (c : tie.After-guest-number) → c .guest-number .result ≡ first (guestConditions (betweenRounds (c .before .before .before .args .t)) (c .before .before .before .args .t) (c .before .before .before .args .at .seat) (c .before .before .before .args .at .position))
+early c = guest-asked _ _ _ 4 _ _ _ (c .guest-number .ensures) (c .before .before .before .pre) (c .before .is-dealt .ensures)
+
 is-dealt-requires : tie.Need-is-dealt-requires
 is-dealt-requires c κs = search needs
 
-seat-number-requires : tie.Need-seat-number-requires
-seat-number-requires c κs = search needs
+guest-number-requires : tie.Need-guest-number-requires
+guest-number-requires c κs = search needs
 
 returns : tie.Need-returns
 unfolding cashConditions
-returns c =
-    let early = seat-asked _ _ 4 _ _ _ (c .before .seat-number .ensures) (c .before .before .before .before .pre) (c .before .before .is-dealt .ensures) in
-    seat-refuses _ _ _ _ early (c .if1 .taken) _
+returns c = guest-refuses _ _ _ _ _ (early (c .before)) (c .if1 .taken) _
 
 purse-at-requires : tie.Need-purse-at-requires
-purse-at-requires c κs =
-    let call = c .before in
-    let early = seat-asked _ _ 4 _ _ _ (call .seat-number .ensures) (call .before .before .before .pre) (call .before .is-dealt .ensures) in
-    seat-nine _ _ _ _ early refl (c .if1 .left)
+purse-at-requires c κs = (guest-nine _ _ _ _ _ (early (c .before)) refl (c .if1 .left), guest-three _ _ _ _ _ (early (c .before)) refl (c .if1 .left))
 
 asked-requires : tie.Need-asked-requires
 asked-requires c κs = search needs
@@ -35,16 +35,15 @@ returns-2 : tie.Need-returns-2
 unfolding cashConditions first
 returns-2 c =
     let passed = c .before .before .before in
-    let call = passed .before in
-    let early = seat-asked _ _ 4 _ _ _ (call .seat-number .ensures) (call .before .before .before .pre) (call .before .is-dealt .ensures) in
-    (simp (c .asked2 .ensures, c .before .asked .ensures, c .before .before .purse-at .ensures)) ∙ sym (seat-passes _ _ _ _ early refl (passed .if1 .left) _)
+    (simp (c .asked2 .ensures, c .before .asked .ensures, c .before .before .purse-at .ensures))
+    ∙ sym (guest-passes _ _ _ _ _ (early (passed .before)) refl (passed .if1 .left) _)
 
 pub cash-number-spec : {M : Type 1} → statement M
 cash-number-spec =
     tie.close
     (tie.spec
     is-dealt-requires
-    seat-number-requires
+    guest-number-requires
     returns
     purse-at-requires
     asked-requires

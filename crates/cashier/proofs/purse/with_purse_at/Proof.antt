@@ -1,4 +1,4 @@
--- The seat is taken, given the purse and put back.
+-- The guest is taken out of the seat, given the purse and put back, and so is the seat.
 use borrow.Author.Needs.{needs}
 use Rattle.cashier.proofs.purse.with_purse_at.Statement.{statement}
 use Rattle.cashier.proofs.purse.with_purse_at.Tie as tie
@@ -9,8 +9,11 @@ cast-j c = search needs
 seat-at-requires : tie.Need-seat-at-requires
 seat-at-requires c κs = search needs
 
-with-purse-requires : tie.Need-with-purse-requires
-with-purse-requires c κs = search needs
+guest-money-requires : tie.Need-guest-money-requires
+guest-money-requires c κs = search needs
+
+with-guest-requires : tie.Need-with-guest-requires
+with-guest-requires c κs = search needs
 
 with-seat-requires : tie.Need-with-seat-requires
 with-seat-requires c κs = search needs
@@ -19,4 +22,12 @@ returns : tie.Need-returns
 returns c = cc
 
 pub with-purse-at-spec : {M : Type 1} → statement M
-with-purse-at-spec = tie.close (tie.spec cast-j seat-at-requires with-purse-requires with-seat-requires returns)
+with-purse-at-spec =
+    tie.close
+    (tie.spec
+    cast-j
+    seat-at-requires
+    guest-money-requires
+    with-guest-requires
+    with-seat-requires
+    returns)

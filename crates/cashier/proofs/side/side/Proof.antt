@@ -1,37 +1,44 @@
--- The number decides: the table as it was, or the effect; an accepted side stake's seat is one of the nine, its kind one of the four, and its purse holds it.
-use mathlib.Core.Path.{_≡_, sym, ap, _∙_}
-use Rattle.table.specs.declared.Seat.{Seat}
-use Rattle.table.specs.Guest.{siding}
-use Rattle.table.specs.Seat.{withMoney}
-use Rattle.table.specs.Table.{seatAt, withSeat}
+-- The number decides: the table as it was, or the effect; an accepted side stake's seat is one of the nine, its position one of the three, its kind
+-- one of the four, and its purse holds it.
+use mathlib.Core.Path.{sym, _∙_}
+use borrow.Author.Needs.{needs}
 use Rattle.answer.proofs.outcome.Laws.{refused, accepted}
 use Rattle.cashier_spec.specs.Side.{sideConditions, sideEffect}
-use Rattle.cashier_spec.proofs.Side.{side-accepted}
-use borrow.Author.Needs.{needs}
+use Rattle.cashier_spec.proofs.Side.{SideAccepted, side-accepted}
 use Rattle.cashier.proofs.side.side.Statement.{statement}
 use Rattle.cashier.proofs.side.side.Tie as tie
+
+-- what an accepted call has
+asked : (c : tie.Else1) → SideAccepted (c .before .before .args .t) (c .before .before .args .at .seat) (c .before .before .args .at .position) (c .before .before .args .kind) (c .before .before .args .n)
+asked c =
+    let start = c .before .before in
+    side-accepted (start .args .t) (start .args .at .seat) (start .args .at .position) (start .args .kind) (start .args .n) (sym (c .before .side-number .ensures) ∙ c .if1 .left)
 
 side-number-requires : tie.Need-side-number-requires
 side-number-requires c κs = search needs
 
 returns : tie.Need-returns
 returns c =
-    let at = c .before .before .args in
-    refused (sideConditions (at .t) (at .at .seat) (at .kind) (at .n)) (sideEffect (at .t) (at .at .seat) (at .kind) (at .n)) (at .t) _ (c .before .side-number .ensures) (c .if1 .taken)
+    let call = c .before .before .args in
+    let at = call .at in
+    refused (sideConditions (call .t) (at .seat) (at .position) (call .kind) (call .n)) (sideEffect (call .t) (at .seat) (at .position) (call .kind) (call .n)) (call .t) _ (c .before .side-number .ensures) (c .if1 .taken)
 
 cast-j : tie.Need-cast-j
 cast-j c = search needs
 
 seat-at-requires : tie.Need-seat-at-requires
-seat-at-requires c κs =
-    let at = c .before .before .before .args in
-    side-accepted (at .t) (at .at .seat) (at .kind) (at .n) (sym (c .before .before .side-number .ensures) ∙ c .before .if1 .left) .seat .nine
+seat-at-requires c κs = asked (c .before) .guest .nine
+
+guest-money-requires : tie.Need-guest-money-requires
+guest-money-requires c κs = asked (c .before .before) .guest .position
 
 sided-requires : tie.Need-sided-requires
 sided-requires c κs =
-    let at = c .before .before .before .before .args in
-    let a = side-accepted (at .t) (at .at .seat) (at .kind) (at .n) (sym (c .before .before .before .side-number .ensures) ∙ c .before .before .if1 .left) in
-    (a .least, a .most, rw (c .seat-at .ensures) (a .enough), a .permitted)
+    let a = asked (c .before .before .before) in
+    (a .least, a .most, rw (c .guest-money .ensures, c .before .seat-at .ensures) (a .enough), a .permitted)
+
+with-guest-requires : tie.Need-with-guest-requires
+with-guest-requires c κs = search needs
 
 with-seat-requires : tie.Need-with-seat-requires
 with-seat-requires c κs = search needs
@@ -39,13 +46,11 @@ with-seat-requires c κs = search needs
 returns-2 : tie.Need-returns-2
 unfolding sideEffect
 returns-2 c =
-    let at = c .before .before .before .before .before .before .args in
-    let t = at .t in
-    let j = at .at .seat in
-    let next : c .before .sided .result ≡ withMoney (seatAt t j) (siding (seatAt t j .money) (at .kind) (at .n))
-    = c .before .sided .ensures ∙ ap (λ (s : Seat). withMoney s (siding (s .money) (at .kind) (at .n))) (c .before .before .seat-at .ensures) in
-    accepted (sideConditions t j (at .kind) (at .n)) (sideEffect t j (at .kind) (at .n)) t _ _ (c .before .before .before .before .before .side-number .ensures) (c .before .before .before .before .if1 .left)
-    (c .with-seat .ensures ∙ ap (withSeat t j) next)
+    let passed = c .before .before .before .before .before .before in
+    let call = passed .before .before .args in
+    let at = call .at in
+    accepted (sideConditions (call .t) (at .seat) (at .position) (call .kind) (call .n)) (sideEffect (call .t) (at .seat) (at .position) (call .kind) (call .n)) (call .t) _ _ (passed .before .side-number .ensures) (passed .if1 .left)
+    (simp (c .with-seat .ensures, c .before .with-guest .ensures, c .before .before .sided .ensures, c .before .before .before .guest-money .ensures, c .before .before .before .before .seat-at .ensures))
 
 pub side-spec : {M : Type 1} → statement M
 side-spec =
@@ -55,6 +60,8 @@ side-spec =
     returns
     cast-j
     seat-at-requires
+    guest-money-requires
     sided-requires
+    with-guest-requires
     with-seat-requires
     returns-2)

@@ -1,4 +1,4 @@
--- `all_lines` goes seat by seat: before each turn the first seats have their lines, at most nine each.
+-- `all_lines` goes seat by seat: before each turn the first seats have their lines, at most 27 each.
 use mathlib.Core.Path.{_≡_, refl, sym, ap}
 use Prim.Native.Nat.{_*_, _-_, _≤_}
 use native.Mathlib.Omega.{arith}
@@ -13,7 +13,7 @@ use Rattle.close.proofs.pay_lines.all_lines.Statement.{statement}
 use Rattle.close.proofs.pay_lines.all_lines.Tie as tie
 
 abbrev Inv-loop : tie.InvT-loop
-Inv-loop names₀ nets₀ bank t o at₀ i₀ names nets at i = (i ≤ 9) × (at ≤ 9 * i) × LinesAt names₀ nets₀ 0 (allLines o bank 0 (take i (t .seats))) names nets at
+Inv-loop names₀ nets₀ bank t o at₀ i₀ names nets at i = (i ≤ 9) × (at ≤ 27 * i) × LinesAt names₀ nets₀ 0 (allLines o bank 0 (take i (t .seats))) names nets at
 
 abbrev μ-loop : tie.MeasureT-loop
 μ-loop names₀ nets₀ bank t o at₀ i₀ names nets at i = 9 - i

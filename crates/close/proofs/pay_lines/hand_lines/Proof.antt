@@ -20,11 +20,11 @@ use Rattle.close.proofs.pay_lines.hand_lines.Statement.{statement}
 use Rattle.close.proofs.pay_lines.hand_lines.Tie as tie
 
 abbrev Inv-loop : tie.InvT-loop
-Inv-loop names₀ nets₀ at o bank stake seat hands n place₀ names nets place =
-    (place ≤ n) × LinesAt names₀ nets₀ at (map (lineOf seat) (handPays o bank stake 0 (take place (handsOf hands)))) names nets (at + place)
+Inv-loop names₀ nets₀ at o bank stake seat position hands n place₀ names nets place =
+    (place ≤ n) × LinesAt names₀ nets₀ at (map (lineOf seat position) (handPays o bank stake 0 (take place (handsOf hands)))) names nets (at + place)
 
 abbrev μ-loop : tie.MeasureT-loop
-μ-loop names₀ nets₀ at o bank stake seat hands n place₀ names nets place = n - place
+μ-loop names₀ nets₀ at o bank stake seat position hands n place₀ names nets place = n - place
 
 used-requires : tie.Need-used-requires Inv-loop μ-loop
 used-requires c κs = search needs
@@ -56,7 +56,7 @@ put-line-requires c κs =
     let at = c .before .before .before .before .before .before in
     let a = at .before .before .args in
     let pay = c .before .before .before .hand-pay in
-    let small = hand-pay-small (a .bank) (a .stake) (omega arith) (pay .result) (a .o) (playedOf (getD (a .t8 .places) (at .loop .place) missingPlace)) (pay .ensures) in
+    let small = hand-pay-small (a .bank) (a .stake) (omega arith) (pay .result) (a .o) (playedOf (getD (a .t9 .places) (at .loop .place) missingPlace)) (pay .ensures) in
     (omega arith, small .0, small .1)
 
 add-place : tie.Need-add-place Inv-loop μ-loop
@@ -73,17 +73,17 @@ loop-again c =
     let i = at .loop .place in
     let pay = c .before .before .before .before .hand-pay in
     let name = c .before .before .before .line-name in
-    let full : length (a .t8 .places) ≡ 4 = simp length-map at (start .good .1 .1 .1 .1 .1 .1 .1 .0 .1 .1 .0 .1 .0 .1) in
-    let n : at .before .used .result ≡ min (a .t8 .many) 4 = at .before .used .ensures in
+    let full : length (a .t9 .places) ≡ 4 = simp length-map at (start .good .1 .1 .1 .1 .1 .1 .1 .1 .0 .1 .1 .0 .1 .0 .1) in
+    let n : at .before .used .result ≡ min (a .t9 .many) 4 = at .before .used .ensures in
     let low : i < at .before .used .result = c .before .before .before .before .before .before .loop-test .taken in
-    let here = hand-at (a .t8) i missingPlace (omega arith) in
-    let within : i < length (handsOf (a .t8)) = omega (arith, many-hands (a .t8) full) in
-    let one = due handKind i (handPay (a .o) (a .bank) (a .stake) (getD (handsOf (a .t8)) i (playedOf missingPlace))) in (
+    let here = hand-at (a .t9) i missingPlace (omega arith) in
+    let within : i < length (handsOf (a .t9)) = omega (arith, many-hands (a .t9) full) in
+    let one = due handKind i (handPay (a .o) (a .bank) (a .stake) (getD (handsOf (a .t9)) i (playedOf missingPlace))) in (
       omega arith,
-      lines-more (map (lineOf (a .seat)) (handPays (a .o) (a .bank) (a .stake) 0 (take i (handsOf (a .t8))))) (lineOf (a .seat) one ∷ []) _ (at .loop .inv .1)
-          (line-put (a .seat) one (name .result) (pay .result)
+      lines-more (map (lineOf (a .seat) (a .position)) (handPays (a .o) (a .bank) (a .stake) 0 (take i (handsOf (a .t9))))) (lineOf (a .seat) (a .position) one ∷ []) _ (at .loop .inv .1)
+          (line-put (a .seat) (a .position) one (name .result) (pay .result)
           (c .put-line .ensures .0) (name .ensures) (c .put-line .ensures .1) (pay .ensures ∙ ap (handPay (a .o) (a .bank) (a .stake)) (sym here)) (omega arith))
-          (sym (hand-lines-next (a .o) (a .bank) (a .stake) (a .seat) i (handsOf (a .t8)) (playedOf missingPlace) within)),
+          (sym (hand-lines-next (a .o) (a .bank) (a .stake) (a .seat) (a .position) i (handsOf (a .t9)) (playedOf missingPlace) within)),
     )
 
 add-result : tie.Need-add-result Inv-loop μ-loop
@@ -94,10 +94,10 @@ returns c =
     let at = c .before in
     let start = at .before .before in
     let a = start .args in
-    let full : length (a .t8 .places) ≡ 4 = simp length-map at (start .good .1 .1 .1 .1 .1 .1 .1 .0 .1 .1 .0 .1 .0 .1) in (
+    let full : length (a .t9 .places) ≡ 4 = simp length-map at (start .good .1 .1 .1 .1 .1 .1 .1 .1 .0 .1 .1 .0 .1 .0 .1) in (
       omega arith,
       lines-are (at .loop .inv .1)
-          (ap (λ (hands : List Played). map (lineOf (a .seat)) (handPays (a .o) (a .bank) (a .stake) 0 hands)) (take-all (at .loop .place) (handsOf (a .t8)) (omega (arith, many-hands (a .t8) full))))
+          (ap (λ (hands : List Played). map (lineOf (a .seat) (a .position)) (handPays (a .o) (a .bank) (a .stake) 0 hands)) (take-all (at .loop .place) (handsOf (a .t9)) (omega (arith, many-hands (a .t9) full))))
           (omega arith),
     )
 

@@ -38,7 +38,7 @@ returns-2 c =
     let name = c .before .before .before .line-name in (
       omega arith,
       rw (lt-ltb 0 (a .insurance) (omega arith))
-          (line-put (a .seat) (due insuranceKind 0 (insurancePay (a .bank) (a .insurance))) (name .result) (pay .result)
+          (line-put (a .seat) (a .position) (due insuranceKind 0 (insurancePay (a .bank) (a .insurance))) (name .result) (pay .result)
           (c .put-line .ensures .0) (name .ensures) (c .put-line .ensures .1) (pay .ensures) refl),
     )
 

@@ -43,7 +43,7 @@ returns-2 c =
     let name = c .before .before .before .line-name in (
       omega arith,
       rw (lt-ltb 0 (a .stake) (omega arith))
-          (line-put (a .seat) (due (sideKind (a .kind)) 0 (sidePay (a .kind) (a .stake) (take (cond (a .split) 3 2) (a .first)))) (name .result) (pay .result)
+          (line-put (a .seat) (a .position) (due (sideKind (a .kind)) 0 (sidePay (a .kind) (a .stake) (take (cond (a .split) 3 2) (a .first)))) (name .result) (pay .result)
           (c .put-line .ensures .0) (name .ensures) (c .put-line .ensures .1) (pay .ensures) refl),
     )
 

@@ -44,8 +44,8 @@ returns c =
     let second = third .before .before .before in
     let one = second .before .before .before in
     let a = one .before .before .before .args in
-    let as-line = lineOf (a .seat) in
-    let due : ℕ → List Due = λ k. sideDue k (side (a .t5) k) (take (cond (a .split) 3 2) (a .first)) in
+    let as-line = lineOf (a .seat) (a .position) in
+    let due : ℕ → List Due = λ k. sideDue k (side (a .t6) k) (take (cond (a .split) 3 2) (a .first)) in
     let two = lines-more (map as-line (due 1)) (map as-line (due 2)) _ (one .side-line .ensures .1) (second .side-line2 .ensures .1) (sym (map-append as-line (due 1) (due 2))) in
     let three = lines-more (map as-line (due 1 ++ due 2)) (map as-line (due 3)) _ two (third .side-line3 .ensures .1) (sym (map-append as-line (due 1 ++ due 2) (due 3))) in
     (omega arith, lines-more (map as-line (due 1 ++ due 2 ++ due 3)) (map as-line (due 4)) _ three (c .side-line4 .ensures .1) (sym (map-append as-line (due 1 ++ due 2 ++ due 3) (due 4))))

@@ -8,13 +8,13 @@ use lib.ListN.{length, take, length-map}
 use lib.Seq.{take-all}
 use Rattle.lists.specs.Sum.{sumOf}
 use Rattle.lists.proofs.Sums.{sum-take}
-use Rattle.table.specs.Seat.{missingSeat}
-use Rattle.close_spec.specs.Close.{seatBack}
+use Rattle.table.specs.Seat.{missingSeat, overGuests}
+use Rattle.close_spec.specs.Close.{guestBack}
 use Rattle.close.proofs.paying.seats_back.Statement.{statement}
 use Rattle.close.proofs.paying.seats_back.Tie as tie
 
 abbrev Inv-loop : tie.InvT-loop
-Inv-loop bank t o all₀ seat₀ all seat = (seat ≤ 9) × (all ≡ sumOf (seatBack (t .options) bank) (take seat (t .seats))) × (all ≤ 140819092733952 * seat)
+Inv-loop bank t o all₀ seat₀ all seat = (seat ≤ 9) × (all ≡ sumOf (overGuests (guestBack (t .options) bank)) (take seat (t .seats))) × (all ≤ 422457278201856 * seat)
 
 abbrev μ-loop : tie.MeasureT-loop
 μ-loop bank t o all₀ seat₀ all seat = 9 - seat
@@ -47,7 +47,7 @@ loop-again c =
     let start = at .before .before in
     let t = start .args .t1 in
     let full : length (t .seats) ≡ 9 = simp length-map at (start .good .0 .1 .1 .1 .1 .0 .1 .0 .1) in
-    (omega arith, rw (add-one, sum-take (seatBack (t .options) (start .args .bank)) (t .seats) (at .loop .seat) missingSeat (omega arith)) (omega arith), omega arith)
+    (omega arith, rw (add-one, sum-take (overGuests (guestBack (t .options) (start .args .bank))) (t .seats) (at .loop .seat) missingSeat (omega arith)) (omega arith), omega arith)
 
 returns : tie.Need-returns Inv-loop μ-loop
 returns c =
@@ -55,7 +55,7 @@ returns c =
     let start = at .before .before in
     let t = start .args .t1 in
     let full : length (t .seats) ≡ 9 = simp length-map at (start .good .0 .1 .1 .1 .1 .0 .1 .0 .1) in
-    at .loop .inv .1 ∙ ap (sumOf (seatBack (t .options) (start .args .bank))) (take-all (at .loop .seat) (t .seats) (omega arith))
+    at .loop .inv .1 ∙ ap (sumOf (overGuests (guestBack (t .options) (start .args .bank)))) (take-all (at .loop .seat) (t .seats) (omega arith))
 
 pub seats-back-spec : {M : Type 1} → statement M
 seats-back-spec =

@@ -21,8 +21,8 @@ sub-result c = search needs
 enum-known-ending : tie.Need-enum-known-ending
 enum-known-ending c = search needs
 
-seat-back-requires : tie.Need-seat-back-requires
-seat-back-requires c κs = search needs
+guest-back-requires : tie.Need-guest-back-requires
+guest-back-requires c κs = search needs
 
 add-result-2 : tie.Need-add-result-2
 add-result-2 c = search needs
@@ -31,7 +31,7 @@ returns : tie.Need-returns
 returns c = rw (c .before .before .before .enum-told .given .1, c .before .before .laid .ensures, c .prizes .ensures)
 
 returns-2 : tie.Need-returns-2
-returns-2 c = rw (c .before .before .before .ending .given .1, c .before .seat-back .ensures .0)
+returns-2 c = rw (c .before .before .before .ending .given .1, c .before .guest-back .ensures .0)
 
 pub ended-purse-spec : {M : Type 1} → statement M
 ended-purse-spec =
@@ -43,7 +43,7 @@ ended-purse-spec =
     prizes-requires
     sub-result
     enum-known-ending
-    seat-back-requires
+    guest-back-requires
     add-result-2
     returns
     returns-2)

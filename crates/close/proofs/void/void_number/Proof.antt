@@ -1,6 +1,9 @@
--- The conditions are asked in the order of the list. Some seat has a stake exactly if the stakes come to something.
+-- The conditions are asked in the order of the list. The seated guests stake first, so that some seat has a stake exactly if the stakes come to something.
+use mathlib.Core.Path.{_≡_}
+use lib.ListN.{length, length-map}
 use borrow.Author.Needs.{needs}
 use Rattle.call.specs.Refusal.{first}
+use Rattle.table.proofs.Facts.{unbroken}
 use Rattle.money.proofs.sums.Capping.{nothing-staked}
 use Rattle.close_spec.specs.Void.{voidConditions}
 use Rattle.close.proofs.void.void_number.Statement.{statement}
@@ -17,7 +20,10 @@ unfolding voidConditions first
 returns c =
     let summed = c .before .before in
     let start = summed .before in
-    simp (c .asked .ensures, start .pre, nothing-staked (start .args .t) (summed .table-sums .result) (summed .table-sums .ensures))
+    let t = start .args .t in
+    let nine : length (t .seats) ≡ 9 = simp length-map at (start .good .0 .1 .1 .1 .1 .0 .1 .0 .1) in
+    let seated = nothing-staked t (summed .table-sums .result) (summed .table-sums .ensures) nine (λ i h. unbroken t (start .pre) .seats i h .seated-first) in
+    simp (c .asked .ensures, start .pre, seated)
 
 pub void-number-spec : {M : Type 1} → statement M
 void-number-spec = tie.close (tie.spec table-sums-requires asked-requires returns)

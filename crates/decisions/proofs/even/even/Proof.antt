@@ -14,13 +14,14 @@ even-number-requires c κs = search needs
 
 answer-requires : tie.Need-answer-requires
 unfolding evenConditions allOf
-answer-requires c κs = λ none. in-turn _ _ (turn-accepted _ _ _ refl (sym (c .even-number .ensures) ∙ none) .0)
+answer-requires c κs = λ none. in-turn _ _ (turn-accepted _ _ _ _ refl (sym (c .even-number .ensures) ∙ none) .0)
 
 returns : tie.Need-returns
 returns c =
     let t = c .before .before .args .t in
     let j = c .before .before .args .at .seat in
-    answered (evenConditions t j) (evenEffect t j) t _ _ (c .before .even-number .ensures) (c .answer .ensures)
+    let p = c .before .before .args .at .position in
+    answered (evenConditions t j p) (evenEffect t j) t _ _ (c .before .even-number .ensures) (c .answer .ensures)
 
 pub even-spec : {M : Type 1} → statement M
 even-spec = tie.close (tie.spec even-number-requires answer-requires returns)

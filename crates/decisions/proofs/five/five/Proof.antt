@@ -14,13 +14,14 @@ five-number-requires c κs = search needs
 
 answer-requires : tie.Need-answer-requires
 unfolding fiveConditions allOf
-answer-requires c κs = λ none. in-turn _ _ (turn-accepted _ _ _ refl (sym (c .five-number .ensures) ∙ none) .0)
+answer-requires c κs = λ none. in-turn _ _ (turn-accepted _ _ _ _ refl (sym (c .five-number .ensures) ∙ none) .0)
 
 returns : tie.Need-returns
 returns c =
     let t = c .before .before .args .t in
     let j = c .before .before .args .at .seat in
-    answered (fiveConditions t j) (fiveEffect t j) t _ _ (c .before .five-number .ensures) (c .answer .ensures)
+    let p = c .before .before .args .at .position in
+    answered (fiveConditions t j p) (fiveEffect t j) t _ _ (c .before .five-number .ensures) (c .answer .ensures)
 
 pub five-spec : {M : Type 1} → statement M
 five-spec = tie.close (tie.spec five-number-requires answer-requires returns)

@@ -12,13 +12,13 @@ turn-number-requires c κs = search needs
 
 returns : tie.Need-returns
 unfolding fiveConditions
-returns c = turn-refuses _ _ _ (c .before .turn-number .ensures) (c .if1 .taken) _
+returns c = turn-refuses _ _ _ _ (c .before .turn-number .ensures) (c .if1 .taken) _
 
 cast-seat-at : tie.Need-cast-seat-at
 cast-seat-at c = search needs
 
 seat-at-requires : tie.Need-seat-at-requires
-seat-at-requires c κs = turn-comes _ _ _ (c .before .before .before .turn-number .ensures) (c .before .before .if1 .left) .nine
+seat-at-requires c κs = turn-comes _ _ _ _ (c .before .before .before .turn-number .ensures) (c .before .before .if1 .left) .nine
 
 up-requires : tie.Need-up-requires
 up-requires c κs = search needs
@@ -26,7 +26,7 @@ up-requires c κs = search needs
 may-take-requires : tie.Need-may-take-requires
 may-take-requires c κs =
     let passed = c .before .before .before .before in
-    let turn = turn-comes _ _ _ (passed .before .turn-number .ensures) (passed .if1 .left) in
+    let turn = turn-comes _ _ _ _ (passed .before .turn-number .ensures) (passed .if1 .left) in
     read-waits _ _ _ _ turn (c .up .ensures) (c .before .seat-at .ensures)
 
 asked-requires : tie.Need-asked-requires
@@ -42,7 +42,7 @@ returns-2 c =
       c .before .before .up .ensures,
       c .before .before .before .seat-at .ensures,
     ))
-    ∙ sym (turn-passes _ _ _ (passed .before .turn-number .ensures) (passed .if1 .left) _)
+    ∙ sym (turn-passes _ _ _ _ (passed .before .turn-number .ensures) (passed .if1 .left) _)
 
 pub five-number-spec : {M : Type 1} → statement M
 five-number-spec =

@@ -1,15 +1,23 @@
--- The number decides: the table as it was, or the effect; an accepted call's seat is one of the nine, and its amount fits.
+-- The number decides: the table as it was, or the effect; an accepted call's seat is one of the nine, its position one of the three, and its amount fits.
 use mathlib.Core.Path.{_≡_, sym, ap, _∙_}
 use native.Mathlib.Omega.{arith}
 use borrow.Author.Needs.{needs}
-use Rattle.table.specs.Seat.{purse, stake}
-use Rattle.table.specs.Table.{seatAt}
+use Rattle.table.specs.declared.Money.{Money}
+use Rattle.table.specs.declared.Seat.{Seat}
+use Rattle.table.specs.Seat.{guestAt, purse, stake}
+use Rattle.table.specs.Table.{guestOf}
 use Rattle.table.proofs.Facts.{insurance-most}
 use Rattle.answer.proofs.outcome.Laws.{refused, accepted}
 use Rattle.decisions_spec.specs.Insure.{insureConditions, insureEffect}
-use Rattle.decisions_spec.proofs.Insure.{insure-accepted}
+use Rattle.decisions_spec.proofs.Insure.{InsureAccepted, insure-accepted}
 use Rattle.decisions.proofs.insure.insure.Statement.{statement}
 use Rattle.decisions.proofs.insure.insure.Tie as tie
+
+-- what an accepted call has
+asked : (c : tie.Else1) → InsureAccepted (c .before .before .args .t) (c .before .before .args .at .seat) (c .before .before .args .at .position) (c .before .before .args .n)
+asked c =
+    let start = c .before .before in
+    insure-accepted (start .args .t) (start .args .at .seat) (start .args .at .position) (start .args .n) (sym (c .before .insure-number .ensures) ∙ c .if1 .left)
 
 insure-number-requires : tie.Need-insure-number-requires
 insure-number-requires c κs = search needs
@@ -18,25 +26,32 @@ returns : tie.Need-returns
 returns c =
     let t = c .before .before .args .t in
     let j = c .before .before .args .at .seat in
+    let p = c .before .before .args .at .position in
     let n = c .before .before .args .n in
-    refused (insureConditions t j n) (insureEffect t j n) t _ (c .before .insure-number .ensures) (c .if1 .taken)
+    refused (insureConditions t j p n) (insureEffect t j p n) t _ (c .before .insure-number .ensures) (c .if1 .taken)
 
 cast-j : tie.Need-cast-j
 cast-j c = search needs
 
 seat-at-requires : tie.Need-seat-at-requires
-seat-at-requires c κs =
-    let start = c .before .before .before in
-    insure-accepted (start .args .t) (start .args .at .seat) (start .args .n) (sym (c .before .before .insure-number .ensures) ∙ c .before .if1 .left) .acting .nine
+seat-at-requires c κs = asked (c .before) .acting .nine
+
+guest-money-requires : tie.Need-guest-money-requires
+guest-money-requires c κs = asked (c .before .before) .position
 
 insured-requires : tie.Need-insured-requires
 insured-requires c κs =
-    let start = c .before .before .before .before in
-    let s = seatAt (start .args .t) (start .args .at .seat) in
-    let a = insure-accepted (start .args .t) (start .args .at .seat) (start .args .n) (sym (c .before .before .before .insure-number .ensures) ∙ c .before .before .if1 .left) in
-    let same-purse : purse (c .seat-at .result) ≡ purse s = ap purse (c .seat-at .ensures) in
-    let same-stake : stake (c .seat-at .result) ≡ stake s = ap stake (c .seat-at .ensures) in
-    (omega (arith, a .enough), omega (arith, insurance-most (start .args .t .options) (stake s) (start .args .n) (a .permitted)))
+    let start = c .before .before .before .before .before in
+    let t = start .args .t in
+    let a = asked (c .before .before .before) in
+    let g = guestOf t (start .args .at .seat) (start .args .at .position) in
+    let same : c .guest-money .result ≡ g .money = c .guest-money .ensures ∙ ap (λ (s : Seat). guestAt s (start .args .at .position) .money) (c .before .seat-at .ensures) in
+    let same-purse : c .guest-money .result .purse ≡ purse g = ap (λ (m : Money). m .purse) same in
+    let same-stake : c .guest-money .result .stake ≡ stake g = ap (λ (m : Money). m .stake) same in
+    (omega (arith, a .enough), omega (arith, insurance-most (t .options) (stake g) (start .args .n) (a .permitted)))
+
+with-guest-requires : tie.Need-with-guest-requires
+with-guest-requires c κs = search needs
 
 with-seat-requires : tie.Need-with-seat-requires
 with-seat-requires c κs = search needs
@@ -44,12 +59,14 @@ with-seat-requires c κs = search needs
 returns-2 : tie.Need-returns-2
 unfolding insureEffect
 returns-2 c =
-    let start = c .before .before .before .before .before .before in
+    let passed = c .before .before .before .before .before .before in
+    let start = passed .before .before in
     let t = start .args .t in
     let j = start .args .at .seat in
+    let p = start .args .at .position in
     let n = start .args .n in
-    accepted (insureConditions t j n) (insureEffect t j n) t _ _ (c .before .before .before .before .before .insure-number .ensures) (c .before .before .before .before .if1 .left)
-    (simp (c .with-seat .ensures, c .before .insured .ensures, c .before .before .seat-at .ensures))
+    accepted (insureConditions t j p n) (insureEffect t j p n) t _ _ (passed .before .insure-number .ensures) (passed .if1 .left)
+    (simp (c .with-seat .ensures, c .before .with-guest .ensures, c .before .before .insured .ensures, c .before .before .before .guest-money .ensures, c .before .before .before .before .seat-at .ensures))
 
 pub insure-spec : {M : Type 1} → statement M
 insure-spec =
@@ -59,6 +76,8 @@ insure-spec =
     returns
     cast-j
     seat-at-requires
+    guest-money-requires
     insured-requires
+    with-guest-requires
     with-seat-requires
     returns-2)

@@ -10,13 +10,14 @@ turn-number-requires : tie.Need-turn-number-requires
 turn-number-requires c κs = search needs
 
 answer-requires : tie.Need-answer-requires
-answer-requires c κs = turn-comes _ _ _ (c .turn-number .ensures)
+answer-requires c κs = turn-comes _ _ _ _ (c .turn-number .ensures)
 
 returns : tie.Need-returns
 returns c =
     let t = c .before .before .args .t in
     let j = c .before .before .args .at .seat in
-    answered (standConditions t j) (standEffect t j) t _ _ (c .before .turn-number .ensures) (c .answer .ensures)
+    let p = c .before .before .args .at .position in
+    answered (standConditions t j p) (standEffect t j) t _ _ (c .before .turn-number .ensures) (c .answer .ensures)
 
 pub stand-spec : {M : Type 1} → statement M
 stand-spec = tie.close (tie.spec turn-number-requires answer-requires returns)

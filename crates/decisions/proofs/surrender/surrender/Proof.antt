@@ -14,18 +14,20 @@ returns : tie.Need-returns
 returns c =
     let t = c .before .before .args .t in
     let j = c .before .before .args .at .seat in
-    refused (surrenderConditions t j) (surrenderEffect t j) t _ (c .before .surrender-number .ensures) (c .if1 .taken)
+    let p = c .before .before .args .at .position in
+    refused (surrenderConditions t j p) (surrenderEffect t j) t _ (c .before .surrender-number .ensures) (c .if1 .taken)
 
 surrendered-requires : tie.Need-surrendered-requires
 surrendered-requires c κs =
     let start = c .before .before in
-    surrender-accepted (start .args .t) (start .args .at .seat) (sym (c .before .surrender-number .ensures) ∙ c .if1 .left) .acting .nine
+    surrender-accepted (start .args .t) (start .args .at .seat) (start .args .at .position) (sym (c .before .surrender-number .ensures) ∙ c .if1 .left) .acting .nine
 
 returns-2 : tie.Need-returns-2
 returns-2 c =
     let t = c .before .before .before .args .t in
     let j = c .before .before .before .args .at .seat in
-    accepted (surrenderConditions t j) (surrenderEffect t j) t _ _ (c .before .before .surrender-number .ensures) (c .before .if1 .left) (c .surrendered .ensures)
+    let p = c .before .before .before .args .at .position in
+    accepted (surrenderConditions t j p) (surrenderEffect t j) t _ _ (c .before .before .surrender-number .ensures) (c .before .if1 .left) (c .surrendered .ensures)
 
 pub surrender-spec : {M : Type 1} → statement M
 surrender-spec = tie.close (tie.spec surrender-number-requires returns surrendered-requires returns-2)

@@ -23,7 +23,7 @@ read : (c : tie.After-waiting-hand) (permits : ℕ → Played → Bool)
 read c permits =
     let start = c .before .before .before in
     let s = start .args .s in
-    let full : length (s .hands .places) ≡ 4 = simp length-map at (start .good .1 .1 .0 .1 .1 .1 .0 .1 .1 .0 .1 .0 .1) in
+    let full : length (s .hands .places) ≡ 4 = simp length-map at (start .good .1 .1 .0 .1 .1 .1 .1 .0 .1 .1 .0 .1 .0 .1) in
     let many : c .before .used .result ≡ length (hands s) = c .before .used .ensures ∙ sym (many-hands (s .hands) full) in
     same-hand permits _ _ _ _ many (c .waiting-hand .ensures)
 

@@ -14,13 +14,13 @@ waiting-place-requires c κs = search needs
 mul-result : tie.Need-mul-result
 mul-result c =
     let start = c .before .before in
-    let full : length (start .args .s .hands .places) ≡ 4 = simp length-map at (start .good .1 .1 .0 .1 .1 .1 .0 .1 .1 .0 .1 .0 .1) in
+    let full : length (start .args .s .hands .places) ≡ 4 = simp length-map at (start .good .1 .1 .0 .1 .1 .1 .1 .0 .1 .1 .0 .1 .0 .1) in
     omega (arith, place-of-four (start .args .o) (start .args .up) (start .args .s) full (start .pre), c .waiting-place .ensures)
 
 element-copy-out-result : tie.Need-element-copy-out-result
 element-copy-out-result c =
     let start = c .before .before in
-    let full : length (start .args .s .hands .places) ≡ 4 = simp length-map at (start .good .1 .1 .0 .1 .1 .1 .0 .1 .1 .0 .1 .0 .1) in
+    let full : length (start .args .s .hands .places) ≡ 4 = simp length-map at (start .good .1 .1 .0 .1 .1 .1 .1 .0 .1 .1 .0 .1 .0 .1) in
     omega (arith, place-of-four (start .args .o) (start .args .up) (start .args .s) full (start .pre), c .waiting-place .ensures)
 
 returns : tie.Need-returns

@@ -11,7 +11,7 @@ use Rattle.decisions.proofs.turn.with_place.Tie as tie
 returns : tie.Need-returns
 returns c =
     let s = c .before .args .s in
-    let full : length (s .hands .places) ≡ 4 = simp length-map at (c .before .good .0 .1 .1 .1 .0 .1 .1 .0 .1 .0 .1) in
+    let full : length (s .hands .places) ≡ 4 = simp length-map at (c .before .good .0 .1 .1 .1 .1 .0 .1 .1 .0 .1 .0 .1) in
     let past : length (s .hands .places) ≤ c .before .args .p = omega arith in
     rw set-out
 

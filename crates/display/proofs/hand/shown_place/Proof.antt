@@ -21,7 +21,7 @@ unfolding placeShown
 returns c =
     let s = c .before .before .before .before .before .args .s in
     let p = c .before .before .before .before .before .args .place in
-    let full : length (s .hands .places) ≡ 4 = simp length-map at (c .before .before .before .before .before .good .0 .1 .1 .1 .0 .1 .1 .0 .1 .0 .1) in
+    let full : length (s .hands .places) ≡ 4 = simp length-map at (c .before .before .before .before .before .good .0 .1 .1 .1 .1 .0 .1 .1 .0 .1 .0 .1) in
     simp (le-leb (length (hands s)) p (omega (arith, many-hands (s .hands) full, c .before .before .used .ensures))) (c .no-hand .ensures)
 
 mul-h : tie.Need-mul-h
@@ -38,7 +38,7 @@ unfolding placeShown
 returns-2 c =
     let s = c .before .before .before .before .before .before .args .s in
     let p = c .before .before .before .before .before .before .args .place in
-    let full : length (s .hands .places) ≡ 4 = simp length-map at (c .before .before .before .before .before .before .good .0 .1 .1 .1 .0 .1 .1 .0 .1 .0 .1) in
+    let full : length (s .hands .places) ≡ 4 = simp length-map at (c .before .before .before .before .before .before .good .0 .1 .1 .1 .1 .0 .1 .1 .0 .1 .0 .1) in
     simp (lt-leb (length (hands s)) p (omega (arith, many-hands (s .hands) full, c .before .before .before .used .ensures))) (c .hand-values .ensures)
 
 pub shown-place-spec : {M : Type 1} → statement M

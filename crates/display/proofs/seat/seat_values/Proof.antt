@@ -20,7 +20,7 @@ returns : tie.Need-returns
 returns c =
     let start = c .before .before .before .before .before .before in
     let s = start .args .s in
-    let full : length (s .hands .places) ≡ 4 = simp length-map at (start .good .1 .0 .1 .1 .1 .0 .1 .1 .0 .1 .0 .1) in
+    let full : length (s .hands .places) ≡ 4 = simp length-map at (start .good .1 .0 .1 .1 .1 .1 .0 .1 .1 .0 .1 .0 .1) in
     let many : c .used .result ≡ length (hands s) = c .used .ensures ∙ sym (many-hands (s .hands) full) in
     rw (c .before .before .laid .ensures, c .before .prizes .ensures, many)
 

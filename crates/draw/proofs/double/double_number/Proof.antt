@@ -1,4 +1,4 @@
--- The conditions in turn are asked first; where none holds a hand of the seat waits, and the rules are asked of it, then purse and shoe.
+-- The conditions in turn are asked first; where none holds a hand of the seat waits, and the rules are asked of it, then the purses and the shoe.
 use mathlib.Core.Path.{sym, _∙_}
 use borrow.Author.Needs.{needs}
 use Rattle.call.specs.Refusal.{first}
@@ -12,26 +12,26 @@ turn-number-requires c κs = search needs
 
 returns : tie.Need-returns
 unfolding doubleConditions
-returns c = turn-refuses _ _ _ (c .before .turn-number .ensures) (c .if1 .taken) _
+returns c = turn-refuses _ _ _ _ (c .before .turn-number .ensures) (c .if1 .taken) _
 
 cast-seat-at : tie.Need-cast-seat-at
 cast-seat-at c = search needs
 
 seat-at-requires : tie.Need-seat-at-requires
-seat-at-requires c κs = turn-comes _ _ _ (c .before .before .before .turn-number .ensures) (c .before .before .if1 .left) .nine
+seat-at-requires c κs = turn-comes _ _ _ _ (c .before .before .before .turn-number .ensures) (c .before .before .if1 .left) .nine
 
 up-requires : tie.Need-up-requires
 up-requires c κs = search needs
 
 may-take-requires : tie.Need-may-take-requires
 may-take-requires c κs =
-    let seat = c .before .before in
+    let seat = c .before in
     let passed = seat .before .before .before in
-    let turn = turn-comes _ _ _ (passed .before .turn-number .ensures) (passed .if1 .left) in
+    let turn = turn-comes _ _ _ _ (passed .before .turn-number .ensures) (passed .if1 .left) in
     read-waits _ _ _ _ turn (c .up .ensures) (seat .seat-at .ensures)
 
-cast-stake : tie.Need-cast-stake
-cast-stake c = search needs
+purse-short-requires : tie.Need-purse-short-requires
+purse-short-requires c κs = search needs
 
 cards-left-requires : tie.Need-cards-left-requires
 cards-left-requires c κs = search needs
@@ -48,18 +48,20 @@ asked-requires-3 c κs = search needs
 returns-2 : tie.Need-returns-2
 unfolding doubleConditions first
 returns-2 c =
-    let passed = c .before .before .before .before .before .before .before .before .before .before .before .before in
     let tests = c .before .before .before in
+    let seat = tests .before .before .before .before in
+    let passed = seat .before .before .before in
     (simp (
       c .asked3 .ensures,
       c .before .asked2 .ensures,
       c .before .before .asked .ensures,
       tests .cards-left .ensures,
-      tests .before .before .before .may-take .ensures,
-      tests .before .before .before .before .up .ensures,
-      tests .before .before .before .before .before .before .seat-at .ensures,
+      tests .before .purse-short .ensures,
+      tests .before .before .may-take .ensures,
+      tests .before .before .before .up .ensures,
+      seat .seat-at .ensures,
     ))
-    ∙ sym (turn-passes _ _ _ (passed .before .turn-number .ensures) (passed .if1 .left) _)
+    ∙ sym (turn-passes _ _ _ _ (passed .before .turn-number .ensures) (passed .if1 .left) _)
 
 pub double-number-spec : {M : Type 1} → statement M
 double-number-spec =
@@ -71,7 +73,7 @@ double-number-spec =
     seat-at-requires
     up-requires
     may-take-requires
-    cast-stake
+    purse-short-requires
     cards-left-requires
     asked-requires
     asked-requires-2

@@ -12,13 +12,13 @@ turn-number-requires c κs = search needs
 
 returns : tie.Need-returns
 unfolding drawConditions
-returns c = turn-refuses _ _ _ (c .before .turn-number .ensures) (c .if1 .taken) _
+returns c = turn-refuses _ _ _ _ (c .before .turn-number .ensures) (c .if1 .taken) _
 
 cast-seat-at : tie.Need-cast-seat-at
 cast-seat-at c = search needs
 
 seat-at-requires : tie.Need-seat-at-requires
-seat-at-requires c κs = turn-comes _ _ _ (c .before .before .before .turn-number .ensures) (c .before .before .if1 .left) .nine
+seat-at-requires c κs = turn-comes _ _ _ _ (c .before .before .before .turn-number .ensures) (c .before .before .if1 .left) .nine
 
 up-requires : tie.Need-up-requires
 up-requires c κs = search needs
@@ -27,7 +27,7 @@ may-take-requires : tie.Need-may-take-requires
 may-take-requires c κs =
     let seat = c .before in
     let passed = seat .before .before .before in
-    let turn = turn-comes _ _ _ (passed .before .turn-number .ensures) (passed .if1 .left) in
+    let turn = turn-comes _ _ _ _ (passed .before .turn-number .ensures) (passed .if1 .left) in
     read-waits _ _ _ _ turn (c .up .ensures) (seat .seat-at .ensures)
 
 cards-left-requires : tie.Need-cards-left-requires
@@ -51,7 +51,7 @@ returns-2 c =
       c .before .before .before .before .up .ensures,
       c .before .before .before .before .before .seat-at .ensures,
     ))
-    ∙ sym (turn-passes _ _ _ (passed .before .turn-number .ensures) (passed .if1 .left) _)
+    ∙ sym (turn-passes _ _ _ _ (passed .before .turn-number .ensures) (passed .if1 .left) _)
 
 pub draw-number-spec : {M : Type 1} → statement M
 draw-number-spec =

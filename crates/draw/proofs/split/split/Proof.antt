@@ -15,18 +15,20 @@ returns : tie.Need-returns
 returns c =
     let t = c .before .before .args .t in
     let j = c .before .before .args .at .seat in
-    refused (splitConditions t j) (splitEffect t j) t _ (c .before .split-number .ensures) (c .if1 .taken)
+    let p = c .before .before .args .at .position in
+    refused (splitConditions t j p) (splitEffect t j) t _ (c .before .split-number .ensures) (c .if1 .taken)
 
 split-table-requires : tie.Need-split-table-requires
 split-table-requires c κs =
     let start = c .before .before in
-    splits _ _ (split-accepted (start .args .t) (start .args .at .seat) (sym (c .before .split-number .ensures) ∙ c .if1 .left))
+    splits _ _ (split-accepted (start .args .t) (start .args .at .seat) (start .args .at .position) (sym (c .before .split-number .ensures) ∙ c .if1 .left))
 
 returns-2 : tie.Need-returns-2
 returns-2 c =
     let t = c .before .before .before .args .t in
     let j = c .before .before .before .args .at .seat in
-    accepted (splitConditions t j) (splitEffect t j) t _ _ (c .before .before .split-number .ensures) (c .before .if1 .left) (c .split-table .ensures)
+    let p = c .before .before .before .args .at .position in
+    accepted (splitConditions t j p) (splitEffect t j) t _ _ (c .before .before .split-number .ensures) (c .before .if1 .left) (c .split-table .ensures)
 
 pub split-spec : {M : Type 1} → statement M
 split-spec = tie.close (tie.spec split-number-requires returns split-table-requires returns-2)

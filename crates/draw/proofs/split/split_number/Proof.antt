@@ -1,4 +1,4 @@
--- The conditions in turn are asked first; where none holds a hand of the seat waits, and the pair is asked of it, then its seat and the shoe.
+-- The conditions in turn are asked first; where none holds a hand of the seat waits, and the pair is asked of it, then its seat, the purses and the shoe.
 use mathlib.Core.Path.{_≡_, sym, _∙_}
 use lib.ListN.{length, length-map}
 use borrow.Author.Needs.{needs}
@@ -14,35 +14,35 @@ turn-number-requires c κs = search needs
 
 returns : tie.Need-returns
 unfolding splitConditions
-returns c = turn-refuses _ _ _ (c .before .turn-number .ensures) (c .if1 .taken) _
+returns c = turn-refuses _ _ _ _ (c .before .turn-number .ensures) (c .if1 .taken) _
 
 cast-seat-at : tie.Need-cast-seat-at
 cast-seat-at c = search needs
 
 seat-at-requires : tie.Need-seat-at-requires
-seat-at-requires c κs = turn-comes _ _ _ (c .before .before .before .turn-number .ensures) (c .before .before .if1 .left) .nine
+seat-at-requires c κs = turn-comes _ _ _ _ (c .before .before .before .turn-number .ensures) (c .before .before .if1 .left) .nine
 
 up-requires : tie.Need-up-requires
 up-requires c κs = search needs
 
 waiting-hand-requires : tie.Need-waiting-hand-requires
 waiting-hand-requires c κs =
-    let seat = c .before .before .before in
+    let seat = c .before .before in
     let passed = seat .before .before .before in
-    let turn = turn-comes _ _ _ (passed .before .turn-number .ensures) (passed .if1 .left) in
+    let turn = turn-comes _ _ _ _ (passed .before .turn-number .ensures) (passed .if1 .left) in
     read-waits _ _ _ _ turn (c .up .ensures) (seat .seat-at .ensures)
 
 cast-most : tie.Need-cast-most
 cast-most c = search needs
-
-cast-stake : tie.Need-cast-stake
-cast-stake c = search needs
 
 is-pair-requires : tie.Need-is-pair-requires
 is-pair-requires c κs = search needs
 
 used-requires : tie.Need-used-requires
 used-requires c κs = search needs
+
+purse-short-requires : tie.Need-purse-short-requires
+purse-short-requires c κs = search needs
 
 cards-left-requires : tie.Need-cards-left-requires
 cards-left-requires c κs = search needs
@@ -63,10 +63,10 @@ returns-2 : tie.Need-returns-2
 unfolding splitConditions first
 returns-2 c =
     let tests = c .before .before .before .before in
-    let hand = tests .before .before .before .before .before .before .before in
-    let seat = hand .before .before .before .before in
+    let hand = tests .before .before .before .before .before .before in
+    let seat = hand .before .before .before in
     let passed = seat .before .before .before in
-    let full : length (seat .seat-at .result .hands .places) ≡ 4 = simp length-map at (seat .seat-at .ok .1 .1 .1 .0 .1 .1 .0 .1 .0 .1) in
+    let full : length (seat .seat-at .result .hands .places) ≡ 4 = simp length-map at (seat .seat-at .ok .1 .1 .1 .1 .0 .1 .1 .0 .1 .0 .1) in
     let many = tests .before .before .used .ensures ∙ sym (many-hands (seat .seat-at .result .hands) full) in
     (simp (
       c .asked4 .ensures,
@@ -74,12 +74,14 @@ returns-2 c =
       c .before .before .asked2 .ensures,
       c .before .before .before .asked .ensures,
       tests .cards-left .ensures,
+      tests .before .purse-short .ensures,
       many,
       tests .before .before .before .is-pair .ensures,
       hand .waiting-hand .ensures,
       hand .before .up .ensures,
       seat .seat-at .ensures,
-    )) ∙ sym (turn-passes _ _ _ (passed .before .turn-number .ensures) (passed .if1 .left) _)
+    ))
+    ∙ sym (turn-passes _ _ _ _ (passed .before .turn-number .ensures) (passed .if1 .left) _)
 
 pub split-number-spec : {M : Type 1} → statement M
 split-number-spec =
@@ -92,9 +94,9 @@ split-number-spec =
     up-requires
     waiting-hand-requires
     cast-most
-    cast-stake
     is-pair-requires
     used-requires
+    purse-short-requires
     cards-left-requires
     asked-requires
     asked-requires-2

@@ -1,9 +1,12 @@
--- Each card of the pair is kept in a hand of its own, in the places that the parent's gives; the purse pays and the number of hands does not wrap.
+-- Each card of the pair is kept in a hand of its own, in the places that the parent's gives; each guest's purse pays and the number of hands does not wrap.
 use mathlib.Core.Path.{_≡_}
 use native.Mathlib.Omega.{arith}
 use borrow.Author.Needs.{needs}
 use lib.ListN.{length, length-map}
+use Rattle.table.specs.Seat.{guestAt}
+use Rattle.decisions_spec.specs.Split.{stakedAgain}
 use Rattle.decisions.proofs.turn.Laws.{place-of-four}
+use Rattle.draw.proofs.card.Laws.{others-are}
 use Rattle.draw.proofs.split.Effect.{same-two}
 use Rattle.draw.proofs.split.split_seat.Statement.{statement}
 use Rattle.draw.proofs.split.split_seat.Tie as tie
@@ -15,13 +18,13 @@ waiting-hand-requires : tie.Need-waiting-hand-requires
 waiting-hand-requires c κs = search needs
 
 kept-card-requires : tie.Need-kept-card-requires
-kept-card-requires c κs = omega arith
+kept-card-requires c κs = search needs
 
 split-hand-requires : tie.Need-split-hand-requires
 split-hand-requires c κs = search needs
 
 kept-card-requires-2 : tie.Need-kept-card-requires-2
-kept-card-requires-2 c κs = omega arith
+kept-card-requires-2 c κs = search needs
 
 split-hand-requires-2 : tie.Need-split-hand-requires-2
 split-hand-requires-2 c κs = search needs
@@ -29,35 +32,48 @@ split-hand-requires-2 c κs = search needs
 split-places-requires : tie.Need-split-places-requires
 split-places-requires c κs =
     let read = c .before .before .before .before .before .before in
-    let start = read .before .before .before .before in
-    let s = start .args .s in
-    let full : length (s .hands .places) ≡ 4 = simp length-map at (start .good .1 .1 .0 .1 .1 .1 .0 .1 .1 .0 .1 .0 .1) in
+    let start = read .before .before .before in
+    let s = start .args .t3 in
+    let full : length (s .hands .places) ≡ 4 = simp length-map at (start .good .1 .1 .0 .1 .1 .1 .1 .0 .1 .1 .0 .1 .0 .1) in
     omega (arith, place-of-four (start .args .o) (start .args .card) s full (start .pre .waits), read .waiting-place .ensures)
 
 add-many : tie.Need-add-many
 add-many c = search needs
 
-cast-with-purse : tie.Need-cast-with-purse
-cast-with-purse c = search needs
+staked-again-requires : tie.Need-staked-again-requires
+unfolding guestAt
+staked-again-requires c κs = c .before .before .before .before .before .before .before .before .before .before .before .before .pre .enough 0 (omega arith)
 
-sub-with-purse : tie.Need-sub-with-purse
-sub-with-purse c = c .before .before .before .before .before .before .before .before .before .before .before .before .before .before .pre .enough
+element-copy-out-staked-again : tie.Need-element-copy-out-staked-again
+element-copy-out-staked-again c = search needs
 
-with-purse-requires : tie.Need-with-purse-requires
-with-purse-requires c κs = search needs
+staked-again-requires-2 : tie.Need-staked-again-requires-2
+unfolding guestAt
+staked-again-requires-2 c κs = c .before .before .before .before .before .before .before .before .before .before .before .before .before .before .pre .enough 1 (omega arith)
+
+element-copy-out-staked-again-2 : tie.Need-element-copy-out-staked-again-2
+element-copy-out-staked-again-2 c = search needs
+
+staked-again-requires-3 : tie.Need-staked-again-requires-3
+unfolding guestAt
+staked-again-requires-3 c κs = c .before .before .before .before .before .before .before .before .before .before .before .before .before .before .before .before .pre .enough 2 (omega arith)
 
 first-of-requires : tie.Need-first-of-requires
 first-of-requires c κs = search needs
 
 returns : tie.Need-returns
 returns c =
-    let paid = c .before in
-    let put = paid .before .before .before .before in
+    let other = c .before in
+    let one = other .before .before in
+    let seated = one .before .before in
+    let put = seated .before .before .before in
     let made = put .before in
     let hand = made .before .before .before .before .before in
-    let start = hand .before .before .before .before .before in
-    same-two (start .args .s) (start .args .first) (start .args .second)
-    (paid .with-purse .ensures) (c .first-of .ensures) (put .split-places .ensures)
+    let start = hand .before .before .before .before in
+    let s = start .args .t3 in
+    let two : length (s .others) ≡ 2 = simp length-map at (start .good .1 .1 .0 .1 .1 .1 .0 .1 .0 .1) in
+    same-two s (start .args .first) (start .args .second)
+    (seated .staked-again .ensures) (others-are stakedAgain (s .others) two (one .staked-again2 .ensures) (other .staked-again3 .ensures)) (c .first-of .ensures) (put .split-places .ensures)
     (made .before .before .split-hand .ensures) (made .before .before .before .kept-card .ensures)
     (made .split-hand2 .ensures) (made .before .kept-card2 .ensures)
     (hand .before .waiting-place .ensures) (hand .waiting-hand .ensures)
@@ -74,8 +90,10 @@ split-seat-spec =
     split-hand-requires-2
     split-places-requires
     add-many
-    cast-with-purse
-    sub-with-purse
-    with-purse-requires
+    staked-again-requires
+    element-copy-out-staked-again
+    staked-again-requires-2
+    element-copy-out-staked-again-2
+    staked-again-requires-3
     first-of-requires
     returns)

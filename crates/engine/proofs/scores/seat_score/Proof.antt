@@ -18,7 +18,7 @@ returns : tie.Need-returns
 returns c =
     let start = c .before .before .before in
     let s = start .args .s in
-    let full : length (s .hands .places) ≡ 4 = simp length-map at (start .good .0 .1 .1 .1 .0 .1 .1 .0 .1 .0 .1) in
+    let full : length (s .hands .places) ≡ 4 = simp length-map at (start .good .0 .1 .1 .1 .1 .0 .1 .1 .0 .1 .0 .1) in
     let past : length (s .hands .places) ≤ start .args .place = omega arith in
     rw (List·getD-eq-default (s .hands .places) missingPlace past) (c .hand-score .ensures ∙ rw (c .before .empty-hand .ensures))
 

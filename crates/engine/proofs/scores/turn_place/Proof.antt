@@ -35,7 +35,7 @@ returns-2 c =
     let seat = c .before .before .before in
     let t = seat .before .before .args .t in
     let s = seat .seat-at .result in
-    let full : length (s .hands .places) ≡ 4 = simp length-map at (seat .seat-at .ok .1 .1 .1 .0 .1 .1 .0 .1 .0 .1) in
+    let full : length (s .hands .places) ≡ 4 = simp length-map at (seat .seat-at .ok .1 .1 .1 .1 .0 .1 .1 .0 .1 .0 .1) in
     let up : c .before .up .result ≡ upCard t = c .before .up .ensures in
     (simp (c .waiting-place .ensures, up, seat .seat-at .ensures), omega (arith, c .waiting-place .ensures, first-most (waits (t .options) (c .before .up .result) (length (hands s))) (hands s), many-hands (s .hands) full))
 

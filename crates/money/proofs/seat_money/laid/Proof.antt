@@ -13,7 +13,7 @@ use Rattle.money.proofs.seat_money.laid.Statement.{statement}
 use Rattle.money.proofs.seat_money.laid.Tie as tie
 
 full : (c : tie.Start) → length (c .args .s .hands .places) ≡ 4
-full c = simp length-map at (c .good .0 .1 .1 .1 .0 .1 .1 .0 .1 .0 .1)
+full c = simp length-map at (c .good .0 .1 .1 .1 .1 .0 .1 .1 .0 .1 .0 .1)
 
 all-sides-requires : tie.Need-all-sides-requires
 all-sides-requires c κs = search needs

@@ -52,7 +52,7 @@ loop-again : tie.Need-loop-again Inv-loop μ-loop
 loop-again c =
     let s = c .before .before .before .before .before .before .before .args .s in
     let o = c .before .before .before .before .before .before .before .args .o in
-    let full : length (s .hands .places) ≡ 4 = simp length-map at (c .before .before .before .before .before .before .before .good .1 .0 .1 .1 .1 .0 .1 .1 .0 .1 .0 .1) in
+    let full : length (s .hands .places) ≡ 4 = simp length-map at (c .before .before .before .before .before .before .before .good .1 .0 .1 .1 .1 .1 .0 .1 .1 .0 .1 .0 .1) in
     let i = c .before .before .before .loop .i in
     let more = prize-most o (s .money .stake) (playedOf (getD (s .hands .places) i none)) in
     (omega arith, rw (next-hand (prize o (s .money .stake)) (s .hands) full i (omega arith)) (omega arith), omega arith)
@@ -61,7 +61,7 @@ returns : tie.Need-returns Inv-loop μ-loop
 unfolding prizes
 returns c =
     let s = c .before .before .before .before .before .args .s in
-    let full : length (s .hands .places) ≡ 4 = simp length-map at (c .before .before .before .before .before .good .1 .0 .1 .1 .1 .0 .1 .1 .0 .1 .0 .1) in
+    let full : length (s .hands .places) ≡ 4 = simp length-map at (c .before .before .before .before .before .good .1 .0 .1 .1 .1 .1 .0 .1 .1 .0 .1 .0 .1) in
     c .before .loop .inv .1 ∙ every-hand (prize (c .before .before .before .before .before .args .o) (s .money .stake)) (s .hands) full (c .before .loop .i) (omega arith)
 
 pub prizes-spec : {M : Type 1} → statement M

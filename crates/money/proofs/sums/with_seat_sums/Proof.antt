@@ -1,89 +1,54 @@
--- Each part is its function's, added; nine seats' sums are far from 64 bits.
-use mathlib.Core.Path.{_≡_}
-use Prim.Native.Nat.{ℕ}
+-- The seated guest is the seat itself, and the three together are the seat's sums; where nobody bets beside, the two others add nothing.
+use mathlib.Core.Path.{sym, _∙_}
 use native.Mathlib.Omega.{arith}
-use lib.ListN.{length, getD, length-map}
-use mir.Syntax.{w32}
-use mir.Val.{Fits}
-use Rattle.money.specs.Sums.{seatSums}
-use Rattle.money.specs.SumsFit.{SumsFit}
-use Rattle.money.proofs.sums.Pass.{seat-within}
 use borrow.Author.Needs.{needs}
+use Rattle.money.specs.SumsFit.{SumsFit}
+use Rattle.money.proofs.sums.Pass.{within-more, fits-in, seat-added, seated-added}
 use Rattle.money.proofs.sums.with_seat_sums.Statement.{statement}
 use Rattle.money.proofs.sums.with_seat_sums.Tie as tie
 
-below : (c : tie.Start) (i : ℕ) → Fits w32 (getD (c .args .s .money .sides) i 0)
-below c i = search needs
+with-guest-sums-requires : tie.Need-with-guest-sums-requires
+with-guest-sums-requires c κs = fits-in 24 26 (c .args .all) (omega arith) (c .pre)
 
--- the sums of the seat alone
-within : (c : tie.Start) → SumsFit 1 (seatSums (c .args .o) (c .args .s))
-within c =
-    let full : length (c .args .s .hands .places) ≡ 4 = simp length-map at (c .good .1 .1 .0 .1 .1 .1 .0 .1 .1 .0 .1 .0 .1) in
-    seat-within (c .args .o) (c .args .s) full (omega arith) (omega arith) (λ i. omega (arith, below c i .fits))
+-- the sums with the seated guest's
+seated-fits : (c : tie.After-with-guest-sums) → SumsFit 25 (c .with-guest-sums .result)
+seated-fits c = within-more 24 1 (c .before .args .all) _ (c .with-guest-sums .result) (c .before .pre) (c .with-guest-sums .ensures .1) (c .with-guest-sums .ensures .0)
 
-cast-t6 : tie.Need-cast-t6
-cast-t6 c = search needs
-
-add-t7 : tie.Need-add-t7
-add-t7 c = search needs
-
-laid-requires : tie.Need-laid-requires
-laid-requires c κs = search needs
-
-add-t9 : tie.Need-add-t9
-add-t9 c = let few = within (c .before .before .before .before .before .before) in omega (arith, few .laid)
-
-prizes-requires : tie.Need-prizes-requires
-prizes-requires c κs = search needs
-
-add-t11 : tie.Need-add-t11
-add-t11 c = let few = within (c .before .before .before .before .before .before .before .before) in omega (arith, few .prizes)
-
-cover-requires : tie.Need-cover-requires
-cover-requires c κs = search needs
-
-side-cover-requires : tie.Need-side-cover-requires
-side-cover-requires c κs = search needs
-
-add-t14 : tie.Need-add-t14
-add-t14 c = let few = within (c .before .before .before .before .before .before .before .before .before .before) in omega (arith, few .cover, c .side-cover .ensures, c .before .cover .ensures)
-
-add-t15 : tie.Need-add-t15
-add-t15 c = let few = within (c .before .before .before .before .before .before .before .before .before .before .before) in omega (arith, few .cover, c .before .side-cover .ensures, c .before .before .cover .ensures)
-
-cut-requires : tie.Need-cut-requires
-cut-requires c κs = search needs
-
-add-t17 : tie.Need-add-t17
-add-t17 c = search needs
+nobody-beside-requires : tie.Need-nobody-beside-requires
+nobody-beside-requires c κs = search needs
 
 returns : tie.Need-returns
 returns c =
-    let start = c .before .before .before .before .before .before .before .before .before .before .before .before .before in (
-      rw (
-        c .before .before .before .before .before .before .before .before .laid .ensures,
-        c .before .before .before .before .before .before .prizes .ensures,
-        c .before .before .before .before .cover .ensures,
-        c .before .before .before .side-cover .ensures,
-        c .before .cut .ensures,
-      ),
-      within start,
+    let start = c .before .before .before .before in
+    let seated = c .before .before .before .with-guest-sums in
+    seated-added (start .args .o) (start .args .s) (start .args .all) (seated .result) (sym (c .before .nobody-beside .ensures) ∙ c .if1 .taken) (seated .ensures)
+
+with-other-sums-requires : tie.Need-with-other-sums-requires
+with-other-sums-requires c κs =
+    let seated = c .before .before .before in
+    (fits-in 25 26 (seated .with-guest-sums .result) (omega arith) (seated-fits seated), omega arith)
+
+with-other-sums-requires-2 : tie.Need-with-other-sums-requires-2
+with-other-sums-requires-2 c κs =
+    let seated = c .before .before .before .before in (
+      within-more 25 1 (seated .with-guest-sums .result) _ (c .with-other-sums .result) (seated-fits seated) (c .with-other-sums .ensures .1) (c .with-other-sums .ensures .0),
+      omega arith,
     )
+
+returns-2 : tie.Need-returns-2
+returns-2 c =
+    let one = c .before .before .before .before .before .with-guest-sums in
+    let two = c .before .with-other-sums in
+    let start = c .before .before .before .before .before .before in
+    seat-added (start .args .o) (start .args .s) (start .args .all) (one .result) (two .result) (c .with-other-sums2 .result) (one .ensures) (two .ensures) (c .with-other-sums2 .ensures)
 
 pub with-seat-sums-spec : {M : Type 1} → statement M
 with-seat-sums-spec =
     tie.close
     (tie.spec
-    cast-t6
-    add-t7
-    laid-requires
-    add-t9
-    prizes-requires
-    add-t11
-    cover-requires
-    side-cover-requires
-    add-t14
-    add-t15
-    cut-requires
-    add-t17
-    returns)
+    with-guest-sums-requires
+    nobody-beside-requires
+    returns
+    with-other-sums-requires
+    with-other-sums-requires-2
+    returns-2)

@@ -14,6 +14,9 @@ abbrev μ-loop : tie.MeasureT-loop
 loop-holds : tie.Need-loop-holds Inv-loop μ-loop
 loop-holds c = omega arith
 
+seated-requires : tie.Need-seated-requires Inv-loop μ-loop
+seated-requires c κs = search needs
+
 slice-aggregate-step : tie.Need-slice-aggregate-step Inv-loop μ-loop
 slice-aggregate-step c = search needs
 
@@ -39,6 +42,7 @@ all-cashed-spec =
     Inv-loop
     μ-loop
     loop-holds
+    seated-requires
     slice-aggregate-step
     step-requires
     add-seat

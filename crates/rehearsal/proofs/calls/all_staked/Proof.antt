@@ -14,11 +14,17 @@ abbrev μ-loop : tie.MeasureT-loop
 loop-holds : tie.Need-loop-holds Inv-loop μ-loop
 loop-holds c = omega arith
 
+seated-requires : tie.Need-seated-requires Inv-loop μ-loop
+seated-requires c κs = search needs
+
 slice-aggregate-step : tie.Need-slice-aggregate-step Inv-loop μ-loop
 slice-aggregate-step c = search needs
 
 step-requires : tie.Need-step-requires Inv-loop μ-loop
 step-requires c κs = search needs
+
+seated-requires-2 : tie.Need-seated-requires-2 Inv-loop μ-loop
+seated-requires-2 c κs = search needs
 
 slice-aggregate-step-2 : tie.Need-slice-aggregate-step-2 Inv-loop μ-loop
 slice-aggregate-step-2 c = search needs
@@ -27,13 +33,13 @@ step-requires-2 : tie.Need-step-requires-2 Inv-loop μ-loop
 step-requires-2 c κs = search needs
 
 add-seat : tie.Need-add-seat Inv-loop μ-loop
-add-seat c = omega arith
+add-seat c = let turn = c .before .before .before .before .before .before .before .before .before .before .before in omega (arith, turn .loop-test .taken, turn .before .loop .inv .1)
 
 loop-less : tie.Need-loop-less Inv-loop μ-loop
 loop-less c = omega arith
 
 loop-again : tie.Need-loop-again Inv-loop μ-loop
-loop-again c = omega arith
+loop-again c = let turn = c .before .before .before .before .before .before .before .before .before .before .before in omega (arith, turn .loop-test .taken, turn .before .loop .inv .1)
 
 returns : tie.Need-returns Inv-loop μ-loop
 returns c = search needs
@@ -45,8 +51,10 @@ all-staked-spec =
     Inv-loop
     μ-loop
     loop-holds
+    seated-requires
     slice-aggregate-step
     step-requires
+    seated-requires-2
     slice-aggregate-step-2
     step-requires-2
     add-seat

@@ -6,10 +6,10 @@ use Rattle.rehearsal.proofs.lines.hands.Statement.{statement}
 use Rattle.rehearsal.proofs.lines.hands.Tie as tie
 
 abbrev Inv-loop : tie.InvT-loop
-Inv-loop t seat n place₀ place = place ≤ 4
+Inv-loop t seat position n place₀ place = place ≤ 4
 
 abbrev μ-loop : tie.MeasureT-loop
-μ-loop t seat n place₀ place = 4 - place
+μ-loop t seat position n place₀ place = 4 - place
 
 shown-seat-requires : tie.Need-shown-seat-requires Inv-loop μ-loop
 shown-seat-requires c κs = search needs

@@ -1,4 +1,4 @@
--- `pay_lines` goes over the 81 places of the arrays.
+-- `pay_lines` goes over the 243 places of the arrays.
 use Prim.Native.Nat.{_≤_, _-_}
 use native.Mathlib.Omega.{arith}
 use borrow.Author.Needs.{needs}
@@ -6,10 +6,10 @@ use Rattle.rehearsal.proofs.lines.pay_lines.Statement.{statement}
 use Rattle.rehearsal.proofs.lines.pay_lines.Tie as tie
 
 abbrev Inv-loop : tie.InvT-loop
-Inv-loop names nets n i₀ i = i ≤ 81
+Inv-loop names nets n i₀ i = i ≤ 243
 
 abbrev μ-loop : tie.MeasureT-loop
-μ-loop names nets n i₀ i = 81 - i
+μ-loop names nets n i₀ i = 243 - i
 
 loop-holds : tie.Need-loop-holds Inv-loop μ-loop
 loop-holds c = omega arith

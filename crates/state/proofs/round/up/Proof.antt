@@ -1,5 +1,5 @@
 -- The bank's cards are the first of its array, so the first of them is the array's first.
-use mathlib.Core.Path.{sym}
+use mathlib.Core.Path.{_≡_, sym}
 use native.Mathlib.Omega.{arith}
 use borrow.Author.Needs.{needs}
 use lib.Seq.{getD-take}
@@ -7,7 +7,10 @@ use Rattle.state.proofs.round.up.Statement.{statement}
 use Rattle.state.proofs.round.up.Tie as tie
 
 returns : tie.Need-returns
-returns c = search needs
+returns c =
+    let bank = c .before .before .args .t .bank in
+    let none : bank .count ≡ 0 = omega arith in
+    rw none
 
 element-copy-out-result : tie.Need-element-copy-out-result
 element-copy-out-result c = search needs
