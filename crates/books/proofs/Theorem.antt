@@ -22,7 +22,7 @@ use Rattle.books.proofs.Claims.{claim}
 abbrev known : Table → Entry → List Entry → List Entry
 known t e es = cond (eqb (number t (e .call) (e .order)) 0) (e ∷ es) es
 
-next-good : (opening : List ℕ) (es : List Entry) (t : Table) (e : Entry) → Good opening es t → Good opening (known t e es) (next t (e .call) (e .order))
+pub next-good : (opening : List ℕ) (es : List Entry) (t : Table) (e : Entry) → Good opening es t → Good opening (known t e es) (next t (e .call) (e .order))
 unfolding next number step replyBy
 next-good opening es t e g = go (eqb (number t (e .call) (e .order)) 0) refl
   where
@@ -30,7 +30,7 @@ next-good opening es t e g = go (eqb (number t (e .call) (e .order)) 0) refl
     go true accept = step-good opening es t (e .call) (e .order) g (eqb-true (number t (e .call) (e .order)) 0 accept)
     go false refuse = g
 
-next-options : (t : Table) (e : Entry) → next t (e .call) (e .order) .options ≡ t .options
+pub next-options : (t : Table) (e : Entry) → next t (e .call) (e .order) .options ≡ t .options
 unfolding next number step replyBy
 next-options t e = go (eqb (number t (e .call) (e .order)) 0)
   where

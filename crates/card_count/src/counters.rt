@@ -6,7 +6,7 @@ ghost use Rattle.lists.specs.Below.{allBelow};
 ghost use Rattle.card_count.specs.Aids.Counters.{countedAll, Room};
 
 // Each card adds one to the counter of its byte.
-pub(crate) fn count(of: &mut [u16; 256], cards: &[u8])
+pub fn count(of: &mut [u16; 256], cards: &[u8])
     requires { ⌜ Room (now of) (length (now cards)) ⌝ }
     ensures { λ _. ⌜ now (of .exit) ≡ countedAll (now (of .entry)) (now (cards .entry)) ⌝ }
 {

@@ -16,12 +16,12 @@ use Rattle.cards.specs.Points.{pointsOf, pointsTable}
 use Rattle.cards.proofs.card.PointsLaws.{points-most}
 use Rattle.cards.specs.Total.{total, lowSum}
 use Rattle.cards.proofs.total.Bounds.{total-le}
-use Rattle.payment.specs.Bank.{mustDraw}
+use Rattle.payment.specs.Bank.{mustDraw, bankTakes}
 use Rattle.options.specs.declared.Options.{Options}
 use Rattle.options.specs.Device.{isBox}
 use Rattle.options.specs.Aids.Facts.{InRange}
 use Rattle.history.specs.Cards.{Cards, makeCards, bankMore, bankTaken, bankFinal, closeBurns}
-use Rattle.close_spec.specs.BankDraw.{bankBurn, bankTakes}
+use Rattle.close_spec.specs.BankDraw.{bankBurn}
 
 -- the bank takes as many as the history counts
 bank-takes : (cards rest : List ℕ) → bankTakes cards rest ≡ cards ++ take (bankMore cards rest) rest

@@ -2,7 +2,7 @@
 -- one record, a fact for each condition.
 use mathlib.Core.Path.{_≡_, refl, sym, _∙_, ap}
 use mathlib.Core.Bool.{true, false, cond}
-use mathlib.Core.List.{List, _∷_}
+use mathlib.Core.List.{List, [], _∷_}
 use Prim.Native.Nat.{ℕ, _+_, _≤_, _<_}
 use native.Mathlib.Decide.{decLe}
 use native.Mathlib.Omega.{arith}
@@ -13,7 +13,7 @@ use borrow.Author.Tests.{not-false}
 use Rattle.lists.specs.Sum.{sumOf}
 use Rattle.lists.specs.Tests.{allOf}
 use Rattle.lists.proofs.Sums.{sum-plus, sum-at-same}
-use Rattle.lists.proofs.Differences.{diff-pos, diff-add}
+use Rattle.lists.proofs.Differences.{Diff, diff-pos, diff-add}
 use Rattle.call.specs.declared.Call.the-variants.{Close}
 use Rattle.call.specs.Refusal.{first}
 use Rattle.call.proofs.Refusals.{none-hold}
@@ -41,7 +41,7 @@ use Rattle.history.specs.Aids.MakeEntry.{entry}
 use Rattle.history.specs.Cards.{makeCards, callTakes, bankTaken, bankFinal, cardsOfHistory}
 use Rattle.history.specs.Rounds.{sideIn, sidesIn}
 use Rattle.history.specs.Hands.{handsIn, firstIn}
-use Rattle.history.specs.Money.{closingScore, betsIn, purseOf}
+use Rattle.history.specs.Money.{closingScore, betsIn, netsIn, purseOf}
 use Rattle.agreement.specs.Aids.Agrees.{Good}
 use Rattle.agreement.proofs.EndOfRound.{Ends, EndCall, purse-end, end-call}
 use Rattle.close_spec.specs.BankDraw.{bankAtClose, closeTakes}
@@ -199,3 +199,22 @@ unfolding closeEffect
 close-good opening es t order g e =
     let ok = close-accepted t e in
     end-call opening es t (entry Close order) _ _ _ _ g (end t (g .shaped) ok) (call opening es t order g ok)
+
+-- What close pays to a guest of any number and position: the purse gains what goes back, and the nets of the history are that less what was laid.
+pub record Gains (opening : List ℕ) (es : List Entry) (t : Table) (i p : ℕ) : Type 0 where
+  pub gained : purse (guestOf (closeEffect t) i p) ≡ purse (guestOf t i p) + guestBack (t .options) (closeScore t) (guestOf t i p)
+  pub nets : Diff (netsIn (t .options) opening es i p) (guestBack (t .options) (closeScore t) (guestOf t i p)) (laid (guestOf t i p))
+
+pub close-gains : (opening : List ℕ) (es : List Entry) (t : Table) (i p : ℕ) → Good opening es t → first (closeConditions t) ≡ 0 → Gains opening es t i p
+unfolding guestBack closeEffect
+close-gains opening es t i p g e =
+    let ok = close-accepted t e in
+    let s = guestOf t i p in
+    let pays = guestPays (t .options) (closeScore t) s in
+    let facts = staked t (g .shaped) ok i p in
+    let after : pos (purse (guestOf (closeEffect t) i p)) ≡ purseOf (t .options) opening (entry Close [] ∷ es) i p = close-good opening es t [] g e .agrees .seats i .guests p .purse-is in
+    let paid-purse : pos (purse s + backOf pays) ≡ purseOf (t .options) opening (entry Close [] ∷ es) i p = purses opening es t [] g ok i p in
+    record {
+      gained = cc (after, paid-purse);
+      nets = rw (← all-paid opening es t [] g ok i p, laid-wagers s (facts .insured) (facts .waiting) ∙ sym (laid-of (t .options) (closeScore t) (betsOf s))) (nets-diff pays);
+    }

@@ -8,14 +8,14 @@ use lib.ListN.{length, take, drop, length-append, length-take, length-drop}
 use lib.Seq.{length-take-le}
 use borrow.Author.Tests.{ltb-true}
 use Rattle.options.specs.Device.{isBox, bankAtDeal}
-use Rattle.payment.specs.Bank.{mustDraw}
+use Rattle.payment.specs.Bank.{mustDraw, bankTakes}
 use Rattle.table.specs.declared.Table.{Table}
 use Rattle.table.specs.Shoe.{burnsFirst}
 use Rattle.table.specs.Table.{bankCards, isDealt, tableOrder, tableShoe}
 use Rattle.table.specs.Aids.Sound.{Sound}
 use Rattle.table.proofs.Facts.{sound-options}
 use Rattle.history.specs.Cards.{Cards, bankTaken, bankFinal}
-use Rattle.close_spec.specs.BankDraw.{bankBurn, bankTakes, bankAtClose, closeTakes}
+use Rattle.close_spec.specs.BankDraw.{bankBurn, bankAtClose, closeTakes}
 use Rattle.close_spec.proofs.BankDraw.{known, box-burns-none, bank-same, bank-enough, bank-new}
 
 -- the table's cards as the history has them, and how many of them are the bank's new ones

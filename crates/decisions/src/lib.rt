@@ -4,7 +4,7 @@ mod end;
 pub mod even;
 pub mod five;
 pub mod insure;
-mod progress;
+pub mod progress;
 pub mod stand;
 pub mod surrender;
 pub mod turn;

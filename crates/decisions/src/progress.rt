@@ -56,7 +56,7 @@ pub(crate) fn any_drew(t: Table) -> bool
 }
 
 // Whether a decision was taken in this round.
-pub(crate) fn any_decided(t: Table) -> bool
+pub fn any_decided(t: Table) -> bool
     ensures { λ r. ⌜ r ≡ anyDecided t ⌝ }
 {
     some_acted(true, t)

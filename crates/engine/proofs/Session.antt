@@ -18,7 +18,7 @@ use Rattle.options.specs.Ranges.{ranges, inRange}
 use Rattle.rules.specs.SeatHand.{natural, hasTwoCards}
 use Rattle.rules.specs.OpenCalls.{evenOpen, fiveOpen}
 use Rattle.rules.specs.Waits.{isTwoAces, acesWait, cardsWait, waits}
-use Rattle.payment.specs.Bank.{mustDraw}
+use Rattle.payment.specs.Bank.{mustDraw, bankTakes}
 use Rattle.rules.specs.Permits.{permitsStand, takesCards, permitsDraw, permitsDouble, permitsSplit}
 use Rattle.rules.specs.Leaving.{permitsEven, permitsFive, permitsSurrender}
 use Rattle.rules.specs.Drew.{seatDrew}
@@ -45,7 +45,7 @@ use Rattle.decisions_spec.specs.Turn.{turnConditions, endEffect}
 use Rattle.decisions_spec.specs.Card.{cardEffect}
 use Rattle.decisions_spec.specs.Double.{doubleConditions}
 use Rattle.decisions_spec.specs.Split.{splitConditions, splitEffect}
-use Rattle.close_spec.specs.BankDraw.{bankBurn, bankTakes, bankAtClose, closeTakes}
+use Rattle.close_spec.specs.BankDraw.{bankBurn, bankAtClose, closeTakes}
 use Rattle.close_spec.specs.Close.{closeConditions, guestBack, closeEffect}
 use Rattle.answer.specs.Reply.{replyBy}
 use Rattle.engine.specs.Step.{number, next, step}

@@ -8,40 +8,19 @@ use call::pay_line::line_kind;
 use call::pay_line::line_place;
 use call::pay_line::line_position;
 use call::pay_line::line_seat;
-use cards::hand::Hand;
-use cards::hand::held;
 use display::hand::HandShown;
 use display::hand::shown_hand;
 use display::seat::shown_seat;
 use display::shown_table;
 use display::shown_turn;
-use libc::STDOUT_FILENO;
-use script::end_of;
+use stage::write::cards;
+use stage::write::counted;
+use stage::write::figure;
+use stage::write::line_at;
+use stage::write::net;
+use stage::write::score;
+use stage::write::words;
 use table::Table;
-
-fn words(text: &[u8]) {
-    io::write_all(STDOUT_FILENO, text);
-}
-
-fn figure(n: u64) {
-    words(b" ");
-    io::print_decimal(STDOUT_FILENO, n);
-}
-
-fn counted(name: &[u8], n: u64) {
-    words(name);
-    figure(n);
-}
-
-// The line of a text that begins at a place.
-fn line_at(text: &[u8], at: usize)
-    requires { do ⌜ at ≤ (← ⟦text.len()⟧) ⌝ }
-{
-    let end = end_of(text, at);
-    if at <= end {
-        words(&text[at..end]);
-    }
-}
 
 // What the script says of the rows that follow.
 pub(crate) fn heading(text: &[u8]) {
@@ -66,52 +45,6 @@ fn figures(number: u8, t: Table, what: &[u8]) {
 pub(crate) fn opened(number: u8, t: Table, what: &[u8]) {
     words(b"open");
     figures(number, t, what);
-}
-
-// One letter of a text.
-fn letter_at(text: &[u8], at: usize)
-    requires { do ⌜ at + 1 ≤ (← ⟦text.len()⟧) ⌝ }
-{
-    words(&text[at..at + 1]);
-}
-
-// A letter for the rank, one for the suit.
-fn card(card: u8) {
-    letter_at(b"A23456789TJQK", (card % 13) as usize);
-    letter_at(b"abcd", (card / 13 % 4) as usize);
-}
-
-fn cards(h: Hand) {
-    let n = held(h);
-    words(b" ");
-    for i in 0usize..n {
-        let one = h.cards[i];
-        card(one);
-    }
-}
-
-// How far the net is from nothing.
-fn size(n: i64) -> u64 {
-    if n < 0 {
-        return ((-1 - n) as u64) + 1;
-    }
-    n as u64
-}
-
-// Where the sign of the net stands.
-fn sign(n: i64) -> usize
-    ensures { λ r. ⌜ r ≤ 6 ⌝ }
-{
-    if n < 0 {
-        return 0;
-    }
-    if n > 0 { 3 } else { 6 }
-}
-
-// The net with its sign.
-fn net(n: i64) {
-    line_at(b" -\n +\n \n", sign(n));
-    io::print_decimal(STDOUT_FILENO, size(n));
 }
 
 // What a pay line is for, by its kind; the words stand eleven letters apart.
@@ -224,14 +157,6 @@ fn state(origin: u8, ended: u8) {
         b" open\n         stood\n        doubled\n      surrendered\n  even\n         five\n        ",
         to,
     );
-}
-
-// A total, and the word soft where an ace counts eleven.
-fn score(total: u8, soft: bool) {
-    figure(total as u64);
-    if soft {
-        words(b" soft");
-    }
 }
 
 // What the dealer called aloud.

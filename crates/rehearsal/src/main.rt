@@ -1,10 +1,8 @@
 // Rounds that display designers rehearse. The file stdin is the script, a call to a line; the expected lines, in the file stdout, are worked out
 // by hand from document 01 and carry a word on what they show.
 mod calls;
-mod houses;
 mod lines;
 mod rows;
-mod stage;
 
 use libc::STDIN_FILENO;
 

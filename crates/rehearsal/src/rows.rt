@@ -1,14 +1,13 @@
 // The rows of the script. At 0 stands the letter of the call, at 2 the seat, at 4 the amount, at 21 the words.
 ghost use Prim.Native.Nat.{_≤_};
 use crate::calls::called;
-use crate::houses::opened;
-use crate::houses::ordered;
 use crate::lines;
-use crate::stage::Stage;
-use crate::stage::first_stage;
 use call::pay_line::LINES;
 use script::digit;
 use script::end_of;
+use stage::Stage;
+use stage::first_stage;
+use stage::houses::ordered;
 
 // A row that shows something and changes nothing.
 fn row_shown(s: Stage, row: &[u8])
@@ -23,6 +22,19 @@ fn row_shown(s: Stage, row: &[u8])
         b'k' => lines::bank(t),
         _ => lines::turn(t),
     }
+}
+
+// An opening, with its line; at 36 stand the words.
+fn opened(s: Stage, row: &[u8]) -> Stage {
+    if row.len() < 36 {
+        return s;
+    }
+    let o = stage::houses::opened(s, row);
+    let table = o.table;
+    lines::opened(o.number, table, &row[36..]);
+    let mut next = s;
+    next.table = table;
+    next
 }
 
 // What the row asks of the stage.

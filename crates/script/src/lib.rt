@@ -1,4 +1,5 @@
 // What the programs read of a script: its lines, numbers and cards. Every text is taken.
+pub mod named;
 pub mod orders;
 
 ghost use mathlib.Core.Path.{_≡_};

@@ -1,5 +1,6 @@
 // Orders that begin with cards of one's choice: the other faces follow, rising, so that each comes as often as there are decks.
 ghost use mathlib.Core.Path.{_≡_};
+ghost use Prim.Native.Nat.{min};
 ghost use Rattle.lists.specs.Sum.{countOf};
 ghost use Rattle.script.specs.Begun.{emptyOrder, placed, placedAll, placedFace, begun};
 
@@ -77,4 +78,11 @@ pub fn begun_order(first: &[u8], decks: u8) -> Order
         next = with_face(next, face, decks as usize, seen(first, face));
     }
     next
+}
+
+// How many cards of an order are lent: its count, and 416 where a damaged count says more.
+pub fn lent(count: usize) -> usize
+    ensures { λ r. ⌜ r ≡ min count 416 ⌝ }
+{
+    if count < 416 { count } else { 416 }
 }

@@ -15,7 +15,7 @@ use Rattle.options.specs.Device.{bankAtDeal}
 use Rattle.options.specs.Decider.{decidingPosition}
 use Rattle.options.specs.Ranges.{ranges, inRange}
 use Rattle.rules.specs.Waits.{cardsWait, waits}
-use Rattle.payment.specs.Bank.{mustDraw}
+use Rattle.payment.specs.Bank.{mustDraw, bankTakes}
 use Rattle.rules.specs.Permits.{takesCards, permitsDraw}
 use Rattle.payment.specs.Wager.{wager}
 use Rattle.payment.specs.Prize.{prize}
@@ -35,7 +35,7 @@ use Rattle.deal_spec.specs.Deal.{dealTakes, loadDue, dealConditions, dealtSeats
 use Rattle.decisions_spec.specs.Turn.{turnConditions, endEffect}
 use Rattle.decisions_spec.specs.Card.{cardEffect}
 use Rattle.decisions_spec.specs.Draw.{drawConditions}
-use Rattle.close_spec.specs.BankDraw.{bankBurn, bankTakes, bankAtClose}
+use Rattle.close_spec.specs.BankDraw.{bankBurn, bankAtClose}
 use Rattle.close_spec.specs.Close.{closeConditions, closeShown}
 use Rattle.answer.specs.Reply.{replyBy}
 use Rattle.engine.specs.Step.{number, next, step}

@@ -1,5 +1,6 @@
-// Parts of the table, read and replaced: the round, a seat, whose turn it is, and what holds nothing.
+// Parts of the table, read and replaced: the round, a seat, whose turn it is, what holds nothing, and the lengths of its arrays.
 pub mod empty;
 pub mod round;
 pub mod seat;
+pub mod shape;
 pub mod turn;

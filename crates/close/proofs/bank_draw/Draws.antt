@@ -1,41 +1,17 @@
--- The bank's cards, one more, and when it has all of them.
-use mathlib.Core.Path.{_≡_, refl}
-use mathlib.Core.Bool.{true, false}
+-- The bank's cards out of the shoe: one more, the last, and all of them.
+use mathlib.Core.Path.{_≡_}
+use mathlib.Core.Bool.{true}
 use mathlib.Core.List.{List, [], _∷_, _++_}
 use Prim.Native.Nat.{ℕ, _+_, _*_, _≤_, _<_}
 use native.Mathlib.Numerals.{add-one}
 use native.Mathlib.Omega.{arith}
-use lib.ListN.{length, take, drop, getD, length-take, drop-of-length-le}
+use lib.ListN.{length, take, drop, getD, drop-of-length-le}
 use lib.Seq.{drop-cons}
-use borrow.Author.Tests.{leb-true}
-use Rattle.cards.specs.declared.hand.Hand.{Hand}
-use Rattle.cards.specs.Hand.{cardsOf, withCard}
-use Rattle.cards.proofs.hand.WithCard.{with-card-cards, with-card-full}
-use Rattle.cards.specs.Total.{total}
-use Rattle.cards.proofs.total.Bounds.{room-for-bank}
-use Rattle.payment.specs.Bank.{mustDraw}
+use Rattle.payment.specs.Bank.{mustDraw, bankTakes}
 use Rattle.table.specs.declared.Table.{Table}
 use Rattle.table.specs.Table.{bankCards, cardsLeft}
 use Rattle.shoe.proofs.Left.{left-length, left-at}
-use Rattle.close_spec.specs.BankDraw.{bankBurn, bankTakes, bankAtClose}
-
--- a bank that stands has all its cards
-pub stands-all : (cards rest : List ℕ) → mustDraw cards ≡ false → bankTakes cards rest ≡ cards
-unfolding bankTakes
-stands-all cards [] stands = refl
-stands-all cards (card ∷ rest) stands = simp stands
-
--- a bank that draws has room for a card
-module _ (bank : Hand) (card : ℕ) (full : length (bank .cards) ≡ 20) (draws : mustDraw (cardsOf bank) ≡ true) where
-  room : bank .count < 20
-  unfolding mustDraw
-  room = omega (arith, room-for-bank (cardsOf bank) (leb-true (total (cardsOf bank)) 16 draws), length-take (bank .count) (bank .cards))
-
-  pub draws-card : cardsOf (withCard bank card) ≡ cardsOf bank ++ (card ∷ [])
-  draws-card = with-card-cards bank card full room
-
-  pub draws-full : length (withCard bank card .cards) ≡ 20
-  draws-full = with-card-full bank card full room
+use Rattle.close_spec.specs.BankDraw.{bankBurn, bankAtClose}
 
 -- the cards left behind a place of the order
 module _ (order : List ℕ) (all : ℕ) (within : all ≤ length order) (drawn : ℕ) (cards : List ℕ) (n : ℕ) where

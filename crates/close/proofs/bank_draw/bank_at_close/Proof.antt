@@ -9,9 +9,9 @@ use borrow.Author.Tests.{not-true, not-false}
 use lib.ListN.{length, take, drop, length-map}
 use Rattle.cards.specs.declared.hand.Hand.{Hand}
 use Rattle.cards.specs.Hand.{cardsOf}
-use Rattle.payment.specs.Bank.{mustDraw}
-use Rattle.close_spec.specs.BankDraw.{bankTakes}
-use Rattle.close.proofs.bank_draw.Draws.{stands-all, draws-card, draws-full, draws-more, draws-none, draws-whole}
+use Rattle.payment.specs.Bank.{mustDraw, bankTakes}
+use Rattle.payment.proofs.bank.Draws.{stands-all, draws-card, draws-full}
+use Rattle.close.proofs.bank_draw.Draws.{draws-more, draws-none, draws-whole}
 use Rattle.close.proofs.bank_draw.bank_at_close.Statement.{statement}
 use Rattle.close.proofs.bank_draw.bank_at_close.Tie as tie
 

@@ -2,7 +2,7 @@
 use mathlib.Core.Path.{refl, ap}
 use lib.ListN.{set}
 use borrow.Author.Needs.{needs}
-use Rattle.close.proofs.pay_lines.Pays.{casts-fit, casts-net}
+use Rattle.close.proofs.Casts.{casts-fit, casts-net}
 use Rattle.close.proofs.pay_lines.put_line.Statement.{statement}
 use Rattle.close.proofs.pay_lines.put_line.Tie as tie
 

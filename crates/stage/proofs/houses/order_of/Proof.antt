@@ -1,10 +1,10 @@
--- `order_of` lends as many cards as `half` counts, at most the 64 that there are.
+-- `order_of` lends as many cards as are named, at most the 64 that there are.
 use mathlib.Core.Path.{_≡_}
 use native.Mathlib.Omega.{arith}
 use lib.ListN.{length, length-take}
 use borrow.Author.Needs.{needs}
-use Rattle.rehearsal.proofs.houses.order_of.Statement.{statement}
-use Rattle.rehearsal.proofs.houses.order_of.Tie as tie
+use Rattle.stage.proofs.houses.order_of.Statement.{statement}
+use Rattle.stage.proofs.houses.order_of.Tie as tie
 
 sub-letters : tie.Need-sub-letters
 sub-letters c = search needs
@@ -18,8 +18,8 @@ part-letters-end c = search needs
 cards-named-requires : tie.Need-cards-named-requires
 cards-named-requires c κs = search needs
 
-half-requires : tie.Need-half-requires
-half-requires c κs = search needs
+many-named-requires : tie.Need-many-named-requires
+many-named-requires c κs = search needs
 
 array-share-prefix-cards : tie.Need-array-share-prefix-cards
 array-share-prefix-cards c = search needs
@@ -53,7 +53,7 @@ order-of-spec =
     part-letters-start
     part-letters-end
     cards-named-requires
-    half-requires
+    many-named-requires
     array-share-prefix-cards
     slice-aggregate-begun-order
     shared-slice-read-digit

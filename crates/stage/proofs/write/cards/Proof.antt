@@ -2,8 +2,8 @@
 use Prim.Native.Nat.{_≤_, _-_}
 use native.Mathlib.Omega.{arith}
 use borrow.Author.Needs.{needs}
-use Rattle.rehearsal.proofs.lines.cards.Statement.{statement}
-use Rattle.rehearsal.proofs.lines.cards.Tie as tie
+use Rattle.stage.proofs.write.cards.Statement.{statement}
+use Rattle.stage.proofs.write.cards.Tie as tie
 
 abbrev Inv-loop : tie.InvT-loop
 Inv-loop h n i₀ i = i ≤ n

@@ -4,8 +4,8 @@ use lib.ListN.{length}
 use native.Mathlib.Omega.{arith}
 use Rattle.script.proofs.Lines.{line-within}
 use borrow.Author.Needs.{needs}
-use Rattle.rehearsal.proofs.lines.line_at.Statement.{statement}
-use Rattle.rehearsal.proofs.lines.line_at.Tie as tie
+use Rattle.stage.proofs.write.line_at.Statement.{statement}
+use Rattle.stage.proofs.write.line_at.Tie as tie
 
 within : (c : tie.After-end-of) → c .end-of .result ≤ length (c .before .before .args .text .now)
 within c = rw (c .end-of .ensures) (line-within (c .before .before .args .text .now) (c .before .before .args .at) (omega arith))

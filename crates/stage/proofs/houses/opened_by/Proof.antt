@@ -3,8 +3,8 @@ use mathlib.Core.Path.{_≡_}
 use native.Mathlib.Omega.{arith}
 use lib.ListN.{length, length-take}
 use borrow.Author.Needs.{needs}
-use Rattle.rehearsal.proofs.houses.opened_by.Statement.{statement}
-use Rattle.rehearsal.proofs.houses.opened_by.Tie as tie
+use Rattle.stage.proofs.houses.opened_by.Statement.{statement}
+use Rattle.stage.proofs.houses.opened_by.Tie as tie
 
 lent-requires : tie.Need-lent-requires
 lent-requires c κs = search needs

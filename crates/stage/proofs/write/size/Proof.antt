@@ -3,9 +3,9 @@ use borrow.Author.Needs.{needs}
 use lib.IntN.{ℤ}
 use mir.Syntax.{w64}
 use mir.Val.{SFits, ofZ, toZ}
-use Rattle.rehearsal.proofs.Nets.{short-fits, short-casts, one-more-fits, casts}
-use Rattle.rehearsal.proofs.lines.size.Statement.{statement}
-use Rattle.rehearsal.proofs.lines.size.Tie as tie
+use Rattle.stage.proofs.Nets.{short-fits, short-casts, one-more-fits, casts}
+use Rattle.stage.proofs.write.size.Statement.{statement}
+use Rattle.stage.proofs.write.size.Tie as tie
 
 abbrev read : tie.Start → ℤ
 read c = toZ w64 (ofZ w64 (c .args .n))

@@ -1,16 +1,17 @@
 // The orders and openings of the script: which cards come first, and the house's options.
 ghost use Prim.Native.Nat.{_≤_};
-use crate::lines;
-use crate::stage::Stage;
-use crate::stage::lent;
+use crate::Stage;
 use answer::outcome::Outcome;
 use cashier::opening::opening;
 use options::Options;
-use script::card;
 use script::digit;
+use script::named::cards_named;
+use script::named::many_named;
 use script::number;
 use script::orders::Order;
 use script::orders::begun_order;
+use script::orders::lent;
+use state::empty::no_options;
 
 // The order as a builder may lend it wrongly: one card short (-), with a byte that is no card in its last place (x), or with the first card there (2).
 fn spoilt(o: Order, letter: u8) -> Order {
@@ -39,44 +40,18 @@ fn spoilt(o: Order, letter: u8) -> Order {
     next
 }
 
-// The card that two letters name, the second of which has the place `at`; 0 behind the last letter.
-fn card_at(letters: &[u8], at: usize) -> u8
-    requires { ⌜ 1 ≤ at ⌝ }
-{
-    if at < letters.len() {
-        card(letters[at - 1], letters[at])
-    } else {
-        0
-    }
-}
-
-// The cards that the letters name, two letters each: at most 64 of them.
-fn cards_named(letters: &[u8]) -> [u8; 64] {
-    let mut cards = [0u8; 64];
-    for i in 0usize..64 {
-        cards[i] = card_at(letters, 2 * i + 1);
-    }
-    cards
-}
-
-fn half(n: usize) -> usize
-    ensures { λ r. ⌜ r ≤ 64 ⌝ }
-{
-    if n < 128 { n / 2 } else { 64 }
-}
-
 // At 2 stands how the order is wrong (. not), at 4 the decks, from 21 on the cards that it begins with.
 fn order_of(row: &[u8]) -> Order
     requires { do ⌜ 21 ≤ (← ⟦row.len()⟧) ⌝ }
 {
     let letters = &row[21..];
     let cards = cards_named(letters);
-    let n = half(letters.len());
+    let n = many_named(letters);
     spoilt(begun_order(&cards[..n], digit(row[4])), row[2])
 }
 
 // The order that the next opening or load is lent.
-pub(crate) fn ordered(s: Stage, row: &[u8]) -> Stage
+pub fn ordered(s: Stage, row: &[u8]) -> Stage
     requires { do ⌜ 21 ≤ (← ⟦row.len()⟧) ⌝ }
 {
     let order = order_of(row);
@@ -114,17 +89,12 @@ fn opened_by(cards: [u8; 416], count: usize, o: Options) -> Outcome {
     opening(o, &cards[..lent(count)])
 }
 
-// An opening with the order that was lent last.
-pub(crate) fn opened(s: Stage, row: &[u8]) -> Stage {
-    if row.len() < 36 {
-        return s;
-    }
+// An opening with the order that was lent last; a row too short for the options opens nothing.
+pub fn opened(s: Stage, row: &[u8]) -> Outcome {
     let order = s.order;
     let cards = order.cards;
-    let o = opened_by(cards, order.count, house(row));
-    let table = o.table;
-    lines::opened(o.number, table, &row[36..]);
-    let mut next = s;
-    next.table = table;
-    next
+    if row.len() < 36 {
+        return opened_by(cards, order.count, no_options());
+    }
+    opened_by(cards, order.count, house(row))
 }
