@@ -1,5 +1,6 @@
-# make test: the gate. make session: the marked session of document 01. make bench: nanoseconds a call. make fmt: the layout of every file.
-.PHONY: test session bench fmt toolchain
+# make test: the gate. make session: the marked session of document 01. make replay FILE=..: plays a session file. make record: writes the marked session's file.
+# make bench: nanoseconds a call. make fmt: the layout of every file.
+.PHONY: test session replay record bench fmt toolchain
 
 toolchain:
 	@command -v rt >/dev/null || { echo "Discgauze needs the Rattle toolchain: the command 'rt' is not on the PATH." >&2; exit 1; }
@@ -9,6 +10,12 @@ test: toolchain
 
 session: toolchain
 	@rt check session >&2 && target/bin/session
+
+replay: toolchain
+	@rt check replay >&2 && target/bin/replay < $(FILE)
+
+record: toolchain
+	@rt check record >&2 && target/bin/record
 
 bench: toolchain
 	@rt check bench >&2 && calls=1000000 && begin=$$(date +%s%N) && target/bin/bench $$calls && end=$$(date +%s%N) && \

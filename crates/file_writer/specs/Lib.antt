@@ -1,0 +1,3 @@
+-- What the code of the writer gives, as its definitions see it (`file_spec`).
+pub mod Writer
+pub mod Aids
