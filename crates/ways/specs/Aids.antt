@@ -1,0 +1,3 @@
+-- What contracts of private functions name.
+pub mod Tried
+pub mod Picked
