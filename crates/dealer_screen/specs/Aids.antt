@@ -1,0 +1,2 @@
+-- What contracts of private functions name.
+pub mod Held
