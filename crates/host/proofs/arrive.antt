@@ -1,0 +1,2 @@
+-- What an arrival asks first.
+pub mod Laws
