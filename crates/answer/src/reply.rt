@@ -10,6 +10,7 @@ use cards::hand::empty_hand;
 use table::Table;
 
 // The call's number, the bank's cards, the number of pay lines and the scores; only an accepted close has cards and lines.
+#[repr(C)]
 pub struct Answer {
     pub number: u8,
     pub bank: Hand,
@@ -17,6 +18,7 @@ pub struct Answer {
     pub scores: Scores,
 }
 
+#[repr(C)]
 pub struct Reply {
     pub answer: Answer,
     pub table: Table,

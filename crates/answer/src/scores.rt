@@ -3,6 +3,7 @@ ghost use mathlib.Core.Path.{_≡_};
 ghost use Rattle.answer.specs.Scores.{noScores, withScore};
 use cards::score::HandScore;
 
+#[repr(C)]
 pub struct Scores {
     pub each: [HandScore; 9],
     pub count: usize,

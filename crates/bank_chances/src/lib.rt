@@ -12,6 +12,7 @@ use cards::hand::empty_hand;
 use cards::hand::with_card;
 
 // The number, 0 where it is accepted; how many draws there are; and of them those that end with a natural, 17, 18, 19, 20, 21 otherwise, bust, unfinished.
+#[repr(C)]
 pub struct BankChances {
     pub number: u8,
     pub all: u64,

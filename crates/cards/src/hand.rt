@@ -3,6 +3,7 @@ ghost use mathlib.Core.Path.{_≡_};
 ghost use Prim.Native.Nat.{min};
 ghost use Rattle.cards.specs.Hand.{emptyHand, withCard};
 
+#[repr(C)]
 pub struct Hand {
     pub cards: [u8; 20],
     pub count: u8,

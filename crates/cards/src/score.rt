@@ -7,6 +7,7 @@ use crate::total::low_sum;
 use crate::total::total;
 
 // A total of at most 200 and a yes or no.
+#[repr(C)]
 pub struct HandScore {
     pub total: u8,
     pub soft: bool,

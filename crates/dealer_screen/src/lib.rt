@@ -17,6 +17,7 @@ use broken::broken;
 use table::Table;
 
 // The fields by seat and position; six rows, how many of them show a hand, and how many hands there are beyond them.
+#[repr(C)]
 pub struct Screen {
     pub seats: [SeatLights; 9],
     pub rows: [Row; 6],

@@ -13,6 +13,7 @@ use state::seat::guest_money;
 use state::seat::seat_at;
 use table::Table;
 
+#[repr(C)]
 pub struct Lights {
     pub buy: bool,
     pub cash: bool,
@@ -32,6 +33,7 @@ pub struct Lights {
 }
 
 // The fields of a seat, by position.
+#[repr(C)]
 pub struct SeatLights {
     pub guests: [Lights; 3],
 }

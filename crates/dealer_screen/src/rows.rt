@@ -18,6 +18,7 @@ use table::Seat;
 use table::Table;
 
 // Seat, place, cards and total of a hand.
+#[repr(C)]
 pub struct Row {
     pub seat: usize,
     pub place: usize,

@@ -14,6 +14,7 @@ use table::Seat;
 use table::Table;
 
 // A hand's cards, their total and whether it is soft, its wager, where it comes from and how it ended.
+#[repr(C)]
 pub struct HandShown {
     pub hand: Hand,
     pub total: u8,

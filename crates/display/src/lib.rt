@@ -21,6 +21,7 @@ use state::turn::seat_in_turn;
 use table::Table;
 
 // The options; the tray, all layout and all purses; how many cards are left, how many are discards, and of the bank the up card.
+#[repr(C)]
 pub struct TableShown {
     pub options: Options,
     pub tray: u64,
@@ -32,6 +33,7 @@ pub struct TableShown {
 }
 
 // The seat and place whose turn it is, and the position of the guest who decides (request 2.8); all 0 where it is nobody's.
+#[repr(C)]
 pub struct TurnShown {
     pub somebody: bool,
     pub seat: usize,

@@ -13,6 +13,7 @@ use table::Seat;
 use table::Table;
 
 // The purse, the stake, the insurance and the side stakes by kind; the layout money and the prizes in this round; how many hands.
+#[repr(C)]
 pub struct SeatShown {
     pub purse: u64,
     pub stake: u32,

@@ -15,6 +15,7 @@ use state::round::up;
 use table::Table;
 
 // The number, 0 where it is accepted; the up card; and how often each face is left.
+#[repr(C)]
 pub struct FacesLeft {
     pub number: u8,
     pub up: u8,

@@ -133,8 +133,8 @@ fn side_kind(kind: u8) -> u8
     if 17 < kind { kind - 17 } else { 0 }
 }
 
-// The call of a kind.
-fn call_of(kind: u8, at: At, amount: u64) -> Call
+// The call of a kind, 1 to 21; every other number is a side stake of no known kind.
+pub fn call_of(kind: u8, at: At, amount: u64) -> Call
     ensures { λ r. ⌜ r ≡ callOf kind at amount ⌝ }
 {
     match kind {

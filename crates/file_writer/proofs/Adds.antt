@@ -19,7 +19,8 @@ use Rattle.file_spec.specs.File.{knownKind, writable}
 use Rattle.file_spec.specs.Writer.{blockOf, written, unwritten, begun, added}
 use Rattle.file_writer.specs.declared.writer.Writer.{Writer}
 use Rattle.file_writer.specs.Writer.{callsOf}
-use Rattle.file_writer.specs.Aids.Parts.{partsOf, codeOf, fitsIn, Small}
+use Rattle.file_writer.specs.Parts.{partsOf}
+use Rattle.file_writer.specs.Aids.Parts.{codeOf, fitsIn, Small}
 
 -- a writer without a call
 pub no-calls : (w : Writer) → w .many ≡ 0 → callsOf w ≡ []

@@ -1,6 +1,7 @@
-// The ten bytes of a call (request 2.9).
+// The parts of a call and its ten bytes (request 2.9).
 ghost use mathlib.Core.Path.{_≡_};
-ghost use Rattle.file_writer.specs.Aids.Parts.{houseParts, guestParts, sideParts, partsOf, codeOf, Small};
+ghost use Rattle.file_writer.specs.Parts.{partsOf};
+ghost use Rattle.file_writer.specs.Aids.Parts.{houseParts, guestParts, sideParts, codeOf, Small};
 use call::At;
 use call::Call;
 
@@ -52,7 +53,8 @@ fn of_side(at: At, kind: u8, amount: u64) -> Parts
     }
 }
 
-pub(crate) fn parts_of(c: Call) -> Parts
+// A call taken apart.
+pub fn parts_of(c: Call) -> Parts
     ensures { λ r. ⌜ r ≡ partsOf c ⌝ }
 {
     match c {

@@ -19,6 +19,7 @@ use card_count::valid_order::valid_order;
 use options::Options;
 use options::in_range;
 
+#[repr(C)]
 pub struct Writer {
     pub options: Options,
     // The calls of the open block, below 50, and their bytes.
@@ -27,6 +28,7 @@ pub struct Writer {
 }
 
 // What the writer gives: a number; how many blocks are now complete, none, one or two, and these; the writer to go on with.
+#[repr(C)]
 pub struct Written {
     pub number: u8,
     pub blocks: u8,
@@ -36,6 +38,7 @@ pub struct Written {
 }
 
 // What it gives at the end: one block or none.
+#[repr(C)]
 pub struct Last {
     pub blocks: u8,
     pub block: [u8; 512],

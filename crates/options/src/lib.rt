@@ -10,6 +10,7 @@ use crate::device::is_box;
 use crate::device::is_shoe;
 
 // The options in document 01's order. Every value is taken: `in_range` says whether a table may open with them.
+#[repr(C)]
 pub struct Options {
     // Seats, 6 to 9.
     pub seats: u8,

@@ -24,6 +24,7 @@ pub const BY_EVEN: u8 = 4;
 
 pub const BY_FIVE: u8 = 5;
 
+#[repr(C)]
 pub struct SeatHand {
     pub hand: Hand,
     pub origin: u8,
@@ -31,6 +32,7 @@ pub struct SeatHand {
 }
 
 // Up to four hands by place, and how many there are.
+#[repr(C)]
 pub struct SeatHands {
     pub places: [SeatHand; 4],
     pub many: u8,

@@ -4,6 +4,7 @@ use options::Options;
 use rules::seat_hand::SeatHands;
 
 // A guest's money: the purse, and on the layout the stake, the insurance and the side stakes by kind, 0 where there is none.
+#[repr(C)]
 pub struct Money {
     pub purse: u64,
     pub stake: u32,
@@ -13,6 +14,7 @@ pub struct Money {
 
 // A seat: the money of the seated guest and that of two others who bet on it, its hands, and copies of its first two cards and of the first card that its first
 // split drew: side stakes are paid by them.
+#[repr(C)]
 pub struct Seat {
     pub money: Money,
     pub others: [Money; 2],
@@ -22,6 +24,7 @@ pub struct Seat {
 
 // The shoe: the loaded order and how much of it is drawn; the discards and how many there are; 1 once a deal was accepted since the opening, else 0, which the
 // machine's burn asks.
+#[repr(C)]
 pub struct Shoe {
     pub order: [u8; 416],
     pub drawn: usize,
@@ -30,6 +33,7 @@ pub struct Shoe {
     pub begun: u8,
 }
 
+#[repr(C)]
 pub struct Table {
     pub options: Options,
     pub tray: u64,

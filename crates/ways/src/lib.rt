@@ -17,12 +17,14 @@ use state::shape::table_shape;
 use table::Table;
 
 // The number, 0 where there is a count.
+#[repr(C)]
 pub struct WaysCount {
     pub number: u8,
     pub count: usize,
 }
 
 // The first `length` of the decisions, each by the kind of its call: 8 stand, 9 draw, 10 double, 11 split, 13 even, 14 five; and what the guest gains or loses by them.
+#[repr(C)]
 pub struct Way {
     pub number: u8,
     pub found: bool,

@@ -1,22 +1,16 @@
--- A call taken apart, as the code does it once for all that the writer asks of it.
+-- The parts of a call, as the code makes them once for all that the writer asks of it.
 use mathlib.Core.Bool.{Bool, true, not, _&&_, _||_}
 use mathlib.Core.List.{List, _∷_}
 use Prim.Native.Nat.{ℕ, _+_, _*_, _<_}
 use lib.Dec.{ltb, leb, eqb}
 use lib.ListN.{replicate}
 use Rattle.call.specs.declared.At.{At}
-use Rattle.call.specs.declared.Call.{Call}
-use Rattle.call.specs.Call.{kind, seat, position, amount}
 use Rattle.options.specs.declared.Options.{Options}
 use Rattle.table.specs.Shoe.{validOrder}
 use Rattle.file_spec.specs.Block.{littleEndian}
-use Rattle.file_spec.specs.File.{knownKind}
 use Rattle.file_writer.specs.declared.codes.Parts.{Parts}
 
-abbrev pub partsOf : Call → Parts
-partsOf c = record { known = knownKind c; kind = kind c; seat = seat c; position = position c; amount = amount c }
-
--- The same of a call without a seat, of one with a seat, and of a side stake.
+-- The parts of a call without a seat, of one with a seat, and of a side stake.
 abbrev pub houseParts : ℕ → ℕ → Parts
 houseParts kind amount = record { known = true; kind = kind; seat = 0; position = 0; amount = amount }
 

@@ -1,7 +1,7 @@
 -- Each arm names the parts of its call.
 use mathlib.Core.Path.{sym, ap, _∙_}
 use Rattle.file_spec.specs.File.{knownKind}
-use Rattle.file_writer.specs.Aids.Parts.{partsOf}
+use Rattle.file_writer.specs.Parts.{partsOf}
 use borrow.Author.Needs.{needs}
 use Rattle.file_writer.proofs.codes.parts_of.Statement.{statement}
 use Rattle.file_writer.proofs.codes.parts_of.Tie as tie
