@@ -35,7 +35,8 @@ pub code-bytes : (c : Call) → codeOf (partsOf c) ≡ callBytes c
 unfolding callBytes
 code-bytes c = refl
 
-known-small : (c : Call) → knownKind c ≡ true → kind c < 256
+-- a known kind fits its byte
+pub known-small : (c : Call) → knownKind c ≡ true → kind c < 256
 unfolding knownKind
 known-small (Fill n) e = omega arith
 known-small (Credit n) e = omega arith
