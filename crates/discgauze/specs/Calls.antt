@@ -1,4 +1,4 @@
--- Issue 28: "step (kind as a number, seat, position, amount, lent order, lent lines)"; "an unknown kind … refuses and changes nothing".
+-- A call of the library: kind as a number, seat, position, amount, lent order, lent lines. An unknown kind is refused and changes nothing.
 use mathlib.Core.Bool.{Bool, cond, _||_}
 use mathlib.Core.List.{List}
 use Prim.Native.Nat.{ℕ}

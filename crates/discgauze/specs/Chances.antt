@@ -1,4 +1,4 @@
--- Issue 28: "a wrong length refuses". The counts are lent; where they are not 52 the number is 3, as for a wrong count.
+-- A wrong length is refused. The counts are lent; where they are not 52 the number is 3, as for a wrong count.
 use mathlib.Core.Bool.{cond}
 use mathlib.Core.List.{List}
 use Prim.Native.Nat.{ℕ}

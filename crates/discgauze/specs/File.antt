@@ -1,4 +1,4 @@
--- Issue 28: a call of a session file by its numbers, read and written.
+-- A call of a session file by its numbers, read and written.
 use mathlib.Core.Bool.{Bool, cond, _&&_}
 use mathlib.Core.List.{List}
 use Prim.Native.Nat.{ℕ}

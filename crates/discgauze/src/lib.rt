@@ -1,4 +1,4 @@
-// The library for C and Rust (issue 28): every public function of the engine under a plain name, over structs of C's layout, numbers and lent bytes. A call is a number with a seat, a
+// The library for C and Rust: every public function of the engine under a plain name, over structs of C's layout, numbers and lent bytes. A call is a number with a seat, a
 // position and an amount, as the session file has them. No function asks anything of its arguments, and each says what the engine's own definition says.
 pub mod calls;
 pub mod chances;
