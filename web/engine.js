@@ -113,6 +113,7 @@
     const names = take(4 * LINES);
     const nets = take(8 * LINES);
     const lent = { at: take(512), size: 512 };
+    const filed = { at: take(1024), size: 1024, length: 0 };
 
     const put = (at, list) => new Uint8Array(memory.buffer).set(list, at);
     const lend = (list) => {
@@ -190,22 +191,32 @@
         wasm.discgauze_shown_screen(back, value(table));
         return read(T.Screen);
       },
-      fileNumber: (file) => { const n = lend(file); return wasm.discgauze_file_number(lent.at, n) & 255; },
-      fileFirst: (file) => { const n = lend(file); return Number(wasm.discgauze_file_first(lent.at, n)); },
-      fileOptions(file) {
-        const n = lend(file);
-        wasm.discgauze_file_options(back, lent.at, n);
+      // A file is lent once and read from there until the next one is.
+      lendFile(file) {
+        if (file.length > filed.size) Object.assign(filed, { at: take(file.length), size: file.length });
+        filed.length = file.length;
+        put(filed.at, file);
+        return wasm.discgauze_file_number(filed.at, BigInt(filed.length)) & 255;
+      },
+      fileFirst: () => Number(wasm.discgauze_file_first(filed.at, BigInt(filed.length))),
+      fileOptions() {
+        wasm.discgauze_file_options(back, filed.at, BigInt(filed.length));
         return read(T.Options);
       },
-      fileOpened(file) {
-        const n = lend(file);
-        wasm.discgauze_file_opened(back, lent.at, n);
+      fileOpened() {
+        wasm.discgauze_file_opened(back, filed.at, BigInt(filed.length));
         return read(T.Outcome);
       },
-      fileCall(file, at) {
-        const n = lend(file);
-        wasm.discgauze_file_call(back, lent.at, n, BigInt(at));
+      fileCall(at) {
+        wasm.discgauze_file_call(back, filed.at, BigInt(filed.length), BigInt(at));
         return read(T.FileCall);
+      },
+      // The bytes of an order that the file hands out, by the place and the number of cards that the engine gave beside a load.
+      filePart: (at, many) => new Uint8Array(memory.buffer, filed.at + at, many).slice(),
+      // A writer that begins as the lent file does: its first order stands at byte 32 of its first block (request 2.9).
+      fileBegun() {
+        const options = call.fileOptions();
+        return call.fileBegin(options, call.filePart(32, 52 * options.decks));
       },
       fileBegin(options, order) {
         const n = lend(order);
