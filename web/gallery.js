@@ -98,7 +98,7 @@ A 0110               A side stake of the second guest: any pair
 S
 D                    Two sevens against a six; the third guest decides
 M
-n 0                  The seated guest may not decide
+n 0                  Refused: the seated guest may not decide
 p 02                 Each lays the own stake again
 2 02                 Three sevens: each has a prize of three wagers
 n 02                 On 17

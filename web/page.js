@@ -70,14 +70,14 @@
   };
   const plain = { seats: 6, decks: 1, first: 1, later: 0, hands: 4, aces: 0, double: 1, limit: 0, insurance: 1, five: 0, prize: 1, device: 1, decider: 1, cut: 0, smallest: 2, largest: 100 };
   const presets = {
-    'Six seats, one deck in a shoe': { options: plain },
-    'Nine seats, eight decks in a shoe': { options: { ...plain, seats: 9, decks: 8, cut: 60, smallest: 20, largest: 5000 } },
-    'One deck in a metal box': { options: { ...plain, seats: 7, device: 2, largest: 1000 } },
-    'Six decks in a shuffling machine': { options: { ...plain, seats: 7, decks: 6, device: 3, later: 1, five: 1, aces: 1, decider: 2, largest: 1000 } },
-    'The house of the marked session': { options: plain, cards: '51 6 5 19 32 9 45 22 3' },
+    'Six seats, one deck': { options: plain },
+    'Nine seats, eight decks': { options: { ...plain, seats: 9, decks: 8, cut: 60, smallest: 20, largest: 5000 } },
+    'Metal box': { options: { ...plain, seats: 7, device: 2, largest: 1000 } },
+    'Shuffling machine': { options: { ...plain, seats: 7, decks: 6, device: 3, later: 1, five: 1, aces: 1, decider: 2, largest: 1000 } },
+    'The marked session': { options: plain, cards: '51 6 5 19 32 9 45 22 3' },
   };
 
-  fill('preset', Object.keys(presets).map((name) => el('option', {}, name)));
+  fill('presets', Object.keys(presets).map((name) => el('button', { type: 'button', 'data-preset': name }, name)));
   fill(
     'options',
     Object.entries(choices).map(([name, of]) => {
@@ -88,8 +88,9 @@
   );
 
   const openingForm = get('opening').querySelector('form');
-  function usePreset() {
-    const of = presets[get('preset').value];
+  function usePreset(chosen) {
+    const of = presets[chosen];
+    document.querySelectorAll('#presets button').forEach((b) => b.classList.toggle('at', b.dataset.preset === chosen));
     for (const [name, value] of Object.entries(of.options)) openingForm.elements[name].value = value;
     openingForm.elements.order.value = of.cards ? 'given' : 'shuffled';
     openingForm.elements.cards.value = of.cards || '';
@@ -175,6 +176,8 @@
       ui.selected = Number(select.dataset.select);
       return draw({ follow: false, note: ui.note });
     }
+    const preset = at('preset');
+    if (preset) return usePreset(preset.dataset.preset);
     if (event.target.classList.contains('cancel')) return event.target.closest('dialog').close();
     return undefined;
   });
@@ -186,8 +189,7 @@
   on('last', 'click', () => { session.toEnd(); draw(); });
   on('clear', 'click', () => setAmount(0));
   on('save', 'click', save);
-  on('new', 'click', () => { usePreset(); get('opening').showModal(); });
-  on('preset', 'change', usePreset);
+  on('new', 'click', () => { usePreset(Object.keys(presets)[0]); get('opening').showModal(); });
   on('open', 'click', openTable);
   on('load', 'click', () => {
     const order = orderOf(get('loading').querySelector('form'), engine.shownTable(session.step.table).options.decks);

@@ -85,15 +85,17 @@
 
   // ---- the felt
 
-  // Cards that lie over one another, the newest on top. `from`: those behind this number are new.
+  // Cards that lie over one another, the newest on top, seven in a column. `from`: those behind this number are new.
   function pile(cards, from) {
-    const step = cards.length > 1 ? Math.min(0.3, 1.1 / (cards.length - 1)) : 0;
+    const tall = Math.min(cards.length, 7);
+    const step = tall > 3 ? Math.max(0.21, 0.3 - 0.02 * (tall - 3)) : 0.3;
     return el(
       'div',
-      { class: 'pile', style: `--n:${cards.length};--step:${step}` },
+      { class: 'pile', style: `--tall:${tall};--columns:${Math.ceil(cards.length / 7)};--step:${step}` },
       cards.map((face, i) => {
         const drawn = card(face, i >= from ? 'new' : '');
-        drawn.style.setProperty('--i', i);
+        drawn.style.setProperty('--row', i % 7);
+        drawn.style.setProperty('--column', Math.floor(i / 7));
         return drawn;
       })
     );
@@ -190,7 +192,8 @@
   // The seats as large as the felt has room for them: a hand is 70 wide, three betting places are 118.
   function fit(r) {
     const seats = document.getElementById('seats');
-    const wide = r.hands.reduce((sum, h) => sum + Math.max(118, 70 * h.length), 0);
+    const across = (hand) => 70 * (0.45 + 0.55 * Math.max(1, Math.ceil(hand[0].hand.count / 7)));
+    const wide = r.hands.reduce((sum, hands) => sum + Math.max(118, hands.reduce((n, h) => n + across(h), 0)), 0);
     const scale = (seats.clientWidth - 36 - 8 * r.seats.length) / Math.max(wide, 1);
     seats.style.setProperty('--u', Math.min(1.4, Math.max(0.3, scale)).toFixed(3));
   }
@@ -241,7 +244,7 @@
           return el(
             'li', { class: i === 0 && r.turn.somebody && 'turn' },
             el('span', {}, 'seat ' + row.seat + ' · hand ' + row.place),
-            el('span', { class: 'minis' }, cardsOf(row.hand).map(mini)),
+            el('span', { class: classes('minis', row.hand.count > 8 && 'many') }, cardsOf(row.hand).map(mini)),
             el('b', {}, row.total)
           );
         })
@@ -256,7 +259,9 @@
   function chances(e, r) {
     const faces = e.facesLeft(r.step.table);
     if (faces.number !== 0) return [];
-    const found = count(7).reverse().map((depth) => e.chances(faces.up, faces.left, depth)).find((c) => c.number === 0);
+    let depth = 6;
+    let found = e.chances(faces.up, faces.left, depth);
+    while (found.number !== 0 && depth > 0) found = e.chances(faces.up, faces.left, --depth);
     const part = (n) => Number((n * 10000n) / found.all) / 100;
     const most = Math.max(...found.counts.map(part));
     return [
