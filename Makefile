@@ -23,3 +23,14 @@ bench: toolchain
 
 fmt: toolchain
 	@rt fmt
+
+# The table in the browser: make page writes target/page/, a folder that a browser opens from disk. make page-test: its test. make pictures: those of the README.
+.PHONY: page page-test pictures
+page: toolchain
+	@web/make-page
+
+page-test: toolchain
+	@web/test/run
+
+pictures: toolchain
+	@web/test/run --pictures

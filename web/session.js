@@ -73,16 +73,20 @@
       while (this.step.count < script.moment && this.forward());
     }
 
-    // A session file, which the engine checks whole. A refused one leaves the page as it was.
+    // A session file, which the engine checks whole. A refused one leaves the session as it was, and the file behind it lent.
     openFile(file) {
       const e = this.engine;
       const number = e.lendFile(file);
-      if (number !== 0) return number;
+      if (number !== 0) {
+        if (this.source && this.source.file) e.lendFile(this.source.file);
+        return number;
+      }
       const opened = e.fileOpened();
       this.begin(opened, e.fileBegun(), 'the first table of the file');
       let place = e.fileFirst();
       this.source = {
         total: null,
+        file,
         next: () => {
           const call = e.fileCall(place);
           if (!call.found) return null;

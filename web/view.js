@@ -175,13 +175,16 @@
     return el('div', { class: 'seat-fields' }, lit);
   }
 
+  // Cards of a seat with few of them are larger.
+  const roomy = (hands) => (hands.length ? Math.min(1.35, seatWide(hands) / handsWide(hands)).toFixed(3) : 1);
+
   function seat(r, i, selected, earlier) {
     const many = r.seats.length;
     const off = many > 1 ? (i - (many - 1) / 2) / ((many - 1) / 2) : 0;
     const turn = !r.closed && r.turn.somebody && r.turn.seat === i;
     return el(
       'section',
-      { class: classes('seat', turn && 'turn', i === selected && 'selected'), 'data-select': i, style: `--off:${off.toFixed(3)};--hands:${Math.max(1, r.hands[i].length)}`, 'aria-label': 'seat ' + i },
+      { class: classes('seat', turn && 'turn', i === selected && 'selected'), 'data-select': i, style: `--off:${off.toFixed(3)};--wide:${seatWide(r.hands[i])};--k:${roomy(r.hands[i])}`, 'aria-label': 'seat ' + i },
       el('div', { class: 'hands' }, r.hands[i].map((_, place) => hand(r, i, place, earlier(i, place)))),
       el('div', { class: 'spots' }, [0, 1, 2].map((p) => spot(r, i, p))),
       el('p', { class: 'plate' }, 'seat ' + i),
@@ -189,11 +192,14 @@
     );
   }
 
-  // The seats as large as the felt has room for them: a hand is 70 wide, three betting places are 118.
+  // How wide a seat is and its hands are: a hand is 70 wide, three betting places are 118.
+  const handsWide = (hands) => hands.reduce((sum, [own]) => sum + 70 * (0.45 + 0.55 * Math.max(1, Math.ceil(own.hand.count / 7))), 0);
+  const seatWide = (hands) => Math.max(118, handsWide(hands));
+
+  // The seats as large as the felt has room for them.
   function fit(r) {
     const seats = document.getElementById('seats');
-    const across = (hand) => 70 * (0.45 + 0.55 * Math.max(1, Math.ceil(hand[0].hand.count / 7)));
-    const wide = r.hands.reduce((sum, hands) => sum + Math.max(118, hands.reduce((n, h) => n + across(h), 0)), 0);
+    const wide = r.hands.reduce((sum, hands) => sum + seatWide(hands), 0);
     const scale = (seats.clientWidth - 36 - 8 * r.seats.length) / Math.max(wide, 1);
     seats.style.setProperty('--u', Math.min(1.4, Math.max(0.3, scale)).toFixed(3));
   }

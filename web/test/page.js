@@ -225,6 +225,15 @@ async function sessionFiles(rows) {
     same(await b.text('#place'), 'call 7', 'the session stays');
   }
 
+  // Nor is the file that is being stepped through lost by it.
+  await b.drop([path.join(b.room, 'marked.discgauze')]);
+  await b.until(`document.querySelector('#place').textContent === 'call 0'`, 'the dropped file');
+  await b.click('#next');
+  await b.drop([path.join(b.room, 'short.discgauze')]);
+  await b.until(`document.querySelector('.said').textContent.includes('short.discgauze is refused')`, 'the refusal');
+  await b.click('#next');
+  same(await figures(), rows[1].slice(1).map(Number), 'the next call behind a refused file');
+
   // The file input takes one as well.
   const { root: page } = await b.send('DOM.getDocument');
   const { nodeId } = await b.send('DOM.querySelector', { nodeId: page.nodeId, selector: '#file' });
