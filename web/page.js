@@ -40,7 +40,7 @@
 
   // ---- orders of cards
 
-  // A shuffled order; where the page can't ask for randomness it has no order to give.
+  // A shuffled order, by the browser's randomness.
   function shuffled(decks) {
     const order = Script.begun([], decks);
     const dice = crypto.getRandomValues(new Uint32Array(order.length));

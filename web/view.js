@@ -371,8 +371,10 @@
     set('next', session.isAtEnd);
     set('last', session.isAtEnd);
     set('save', !step.writer);
-    const here = document.querySelector('#trail .at');
-    if (here) here.scrollIntoView({ block: 'nearest' });
+    // The call that is shown stays in sight of its list; the page itself does not move.
+    const list = document.getElementById('trail');
+    const here = list.querySelector('.at');
+    if (here) list.scrollTop = Math.max(0, here.offsetTop - list.offsetTop - list.clientHeight + 2 * here.offsetHeight);
   }
 
   root.View = { draw, el, fill, values, chipClass };

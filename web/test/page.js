@@ -6,7 +6,11 @@ const fs = require('fs');
 const path = require('path');
 const Browser = require('./browser.js');
 const { smaller } = require('./png.js');
+const Engine = require('../engine.js');
 const Gallery = require('../gallery.js');
+const Script = require('../script.js');
+const Session = require('../session.js');
+const Words = require('../words.js');
 
 const root = path.resolve(__dirname, '../..');
 const at = (...names) => path.join(root, ...names);
@@ -271,6 +275,61 @@ async function openings() {
   same(await number('#figure-left'), 47, 'deal behind the load');
 }
 
+// Any fields, lit and dark, touched at random, beside a session of the same calls without a page: the page never shows another figure. The dice are the same in every run.
+async function anyTouches(many) {
+  let seed = 20041;
+  const below = (n) => {
+    seed = (Math.imul(seed, 1103515245) + 12345) >>> 0;
+    return (seed >>> 8) % n;
+  };
+  const engine = await Engine.start(fs.readFileSync(at('target/wasm/discgauze.wasm')));
+  const session = new Session(engine);
+  const house = { seats: 6, decks: 1, first: 1, later: 0, hands: 4, aces: 0, double: 1, limit: 0, insurance: 1, five: 0, prize: 1, device: 1, decider: 1, cut: 0, smallest: 2, largest: 100 };
+  session.open(house, Script.begun(Script.cards('51 6 5 19 32 9 45 22 3'), 1));
+  await b.click('#new');
+  await b.click('[data-preset="The marked session"]');
+  await b.click('#open');
+  const kinds = new Set();
+  for (let i = 0; i < many; i += 1) {
+    const much = i === 0 ? 20000 : [2, 10, 20, 20, 100][below(5)];
+    if (i < 2 || below(3) === 0) await amount(much);
+    const amounts = BigInt((await b.ask(`document.querySelector('#amount').value`)).replace(/,/g, ''));
+    await b.click(`.tabs [data-select="${below(6)}"]`);
+    // A lit field of the felt or of the house that goes on with the round, mostly; else any field, lit or dark.
+    const on = ['.seat-fields .lit', '#house-fields .lit[data-kind="15"]', '#house-fields .lit[data-kind="6"]'][below(3)];
+    const lit = below(4) > 0 ? '.lit' : '';
+    const any = `main .field${lit}:not([data-kind="17"]), #house-fields .field${lit}:not([data-kind="17"]):not([data-kind="16"]):not([data-kind="2"])`;
+    const going = below(4) > 0 && (await b.ask(`!!document.querySelector(${JSON.stringify(on)})`));
+    const choice = i === 0 ? '#house-fields [data-kind="1"]' : going ? on : any;
+    const place = below(1000);
+    const touched = await b.ask(`(() => {
+      const all = [...document.querySelectorAll(${JSON.stringify(choice)})];
+      document.querySelectorAll('.touched').forEach((n) => n.classList.remove('touched'));
+      const one = all[${place} % all.length];
+      one.classList.add('touched');
+      return { kind: Number(one.dataset.kind), seat: Number(one.dataset.seat), position: Number(one.dataset.position) };
+    })()`);
+    await b.click('.touched');
+    const of = Words.calls[touched.kind];
+    const step = session.play({ kind: touched.kind, seat: of.seat ? touched.seat : 0, position: of.seat ? touched.position : 0, amount: of.amount ? amounts : 0n });
+    const shown = engine.shownTable(step.table);
+    const expected = [step.number, Number(shown.tray), Number(shown.layout), Number(shown.purses), shown.left];
+    same(await figures(), expected, `touch ${i}, ${Words.callWords(step.call)}`);
+    kinds.add(step.number === 0 ? of.name : step.number);
+    const seat = Number(await b.ask(`document.querySelector('.tabs .selected').dataset.select`));
+    const own = engine.shownSeat(step.table, seat, 0);
+    same(await b.ask(`[...document.querySelectorAll('.guest[data-position="0"] .figure:not(.side) dd')].map((d) => d.textContent.replace(/,/g, ''))`), [own.purse, own.stake, own.insurance, own.layout, own.prizes].map(String), 'the seat display');
+  }
+  same(['buy', 'stake', 'deal', 'stand', 'close'].every((name) => kinds.has(name)) && kinds.size > 10, true, 'that the touches are many: ' + [...kinds].join(' '));
+}
+
+// Every number that the header names has words.
+function numbersInWords() {
+  const header = fs.readFileSync(at('include/discgauze.h'), 'utf8');
+  const named = [...header.matchAll(/^#define DISCGAUZE_\w+ (\d+)|^ *DISCGAUZE_\w+ = (\d+)/gm)].map((m) => Number(m[1] || m[2]));
+  for (let n = 0; n < 30; n += 1) same([named.includes(n), n in Words.numbers], [true, true], 'the number ' + n);
+}
+
 async function pictures() {
   fs.mkdirSync(at('docs/images'), { recursive: true });
   const take = async (name) => {
@@ -306,6 +365,8 @@ async function main() {
     await wholeGallery();
     await sessionFiles(rows);
     await openings();
+    await anyTouches(160);
+    if (fs.existsSync(at("include/discgauze.h"))) numbersInWords();
     if (process.argv.includes('--pictures')) await pictures();
     same(b.problems, [], 'faults on the page');
   } finally {
