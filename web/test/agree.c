@@ -1,16 +1,12 @@
 // The native half of the comparison with WebAssembly: plays seeded random calls over libdiscgauze.a and writes what comes back, every struct as it lies in memory.
 // web/test/agree.js plays the same calls over WebAssembly and compares byte for byte; the two files choose the calls in the same way.
 //   agree SEED CALLS
-#include <stdbool.h>
-#include <stddef.h>
-#include <stdint.h>
 #include <stdio.h>
 #include <stdlib.h>
 #include <string.h>
 
-#include "discgauze.h"
+#include "native.h"
 
-#define S(name) struct discgauze_##name
 #define PUT(value) fwrite(&(value), sizeof(value), 1, stdout)
 
 static uint32_t seed;
@@ -196,8 +192,8 @@ static void choose(S(Table) *table) {
 
 // ---- what is written
 
-static uint32_t names[DISCGAUZE_LINES];
-static int64_t nets[DISCGAUZE_LINES];
+static uint32_t names[LINES];
+static int64_t nets[LINES];
 static uint8_t *file;
 static size_t length, room;
 
@@ -273,8 +269,8 @@ static void readings(S(Table) *table, uint32_t turn) {
 
 // By pointer the next table comes about in its place, and that is the one that goes on; by value it is written beside it.
 static void step(S(Table) *table) {
-    uint32_t other_names[DISCGAUZE_LINES];
-    int64_t other_nets[DISCGAUZE_LINES];
+    uint32_t other_names[LINES];
+    int64_t other_nets[LINES];
     S(Answer) answer;
     S(Table) other = *table;
     memset(&answer, 0, sizeof answer);
@@ -291,6 +287,10 @@ static void step(S(Table) *table) {
     PUT(answer);
     PUT(names);
     PUT(nets);
+    for (size_t i = 0; i < reply.answer.lines; i++) {
+        uint8_t parts[4] = {discgauze_line_seat(names[i]), discgauze_line_position(names[i]), discgauze_line_place(names[i]), discgauze_line_kind(names[i])};
+        PUT(parts);
+    }
     if (number == 0 && asked.kind == 5) staked_seat = asked.seat, staked_position = asked.position;
     *table = other;
 }

@@ -308,6 +308,10 @@ function step(table) {
   same(T.Answer, bytes(answerAt, T.Answer.size), 'the answer of call ' + kind);
   same(null, bytes(namesAt[0], 4 * LINES), 'the names of pay lines');
   same(null, bytes(netsAt[0], 8 * LINES), 'the nets of pay lines');
+  const names = new DataView(memory.buffer, namesAt[0]);
+  for (let i = 0; i < shown.answer.lines; i += 1) {
+    same(null, Buffer.from(['seat', 'position', 'place', 'kind'].map((part) => wasm['discgauze_line_' + part](names.getUint32(4 * i, true)) & 255)), 'a line taken apart');
+  }
   if (number === 0) accepted[kind] += 1;
   else refused.add(number);
   if (number === 0 && kind === 5) Object.assign(staked, { seat, position });

@@ -323,11 +323,10 @@ async function anyTouches(many) {
   same(['buy', 'stake', 'deal', 'stand', 'close'].every((name) => kinds.has(name)) && kinds.size > 10, true, 'that the touches are many: ' + [...kinds].join(' '));
 }
 
-// Every number that the header names has words.
+// Every number of a refusal has words.
 function numbersInWords() {
-  const header = fs.readFileSync(at('include/discgauze.h'), 'utf8');
-  const named = [...header.matchAll(/^#define DISCGAUZE_\w+ (\d+)|^ *DISCGAUZE_\w+ = (\d+)/gm)].map((m) => Number(m[1] || m[2]));
-  for (let n = 0; n < 30; n += 1) same([named.includes(n), n in Words.numbers], [true, true], 'the number ' + n);
+  for (let n = 0; n < 30; n += 1) same(typeof Words.numbers[n], 'string', 'the number ' + n);
+  same(typeof Words.numbers[255], 'string', 'the number 255');
 }
 
 async function pictures() {
@@ -366,7 +365,7 @@ async function main() {
     await sessionFiles(rows);
     await openings();
     await anyTouches(160);
-    if (fs.existsSync(at("include/discgauze.h"))) numbersInWords();
+    numbersInWords();
     if (process.argv.includes('--pictures')) await pictures();
     same(b.problems, [], 'faults on the page');
   } finally {
