@@ -5,17 +5,15 @@ use mathlib.Core.List.{List}
 use Prim.Native.Nat.{ℕ, _<_, _-_}
 use native.Mathlib.Omega.{arith}
 use borrow.Author.Tests.{ltb-true, eqb-true, ne-eqb, lt-leb, le-leb}
-use lib.Dec.{ltb, leb, eqb}
+use lib.Dec.{ltb, eqb}
 use lib.IntN.{ℤ}
 use Rattle.call.specs.declared.At.{At}
 use Rattle.call.specs.declared.Call.{Call}
-use Rattle.options.specs.declared.Options.{Options}
 use Rattle.table.specs.declared.Table.{Table}
 use Rattle.answer.specs.declared.reply.Reply.{Reply}
 use Rattle.answer.specs.Outcome.{makeOutcome}
 use Rattle.answer.specs.Reply.{Given, givenBy, givenOf, plainReply}
 use Rattle.engine.specs.Step.{step}
-use Rattle.history.specs.Entry.{Entry}
 use Rattle.file_spec.specs.CallBlock.{callOf}
 use Rattle.file_spec.specs.File.{knownKind, writable}
 use Rattle.file_spec.specs.Writer.{unwritten, added}

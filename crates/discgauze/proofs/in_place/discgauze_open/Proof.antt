@@ -37,7 +37,7 @@ use denote.Triple.Call.{calls-at}
 use denote.Triple.Entry.{onEntry}
 use denote.Triple.Spec.{Meets, tripleOf}
 use denote.Triple.Table.{entered, cited}
-use denote.Triple.Walked.{says, Stays, stay-ref, stay-none, stay-none-slice, walkOf, AllGo, goes-none, goes-ref, goes-none-slice, Walks, ends-at, walked, walk-meets}
+use denote.Triple.Walked.{says, Stays, stay-ref, stay-none, stay-none-slice, walkOf, goes-none, goes-ref, goes-none-slice, Walks, ends-at, walked, walk-meets}
 use denote.Triple.Clauses.{ensured, lasts}
 use denote.Exit.{yes}
 use Rattle.options.specs.declared.Options.{Options}
@@ -104,7 +104,7 @@ module _ {M : Type 1} (𝓤 : URA M) (H : Heap 𝓤) (A : Atoms 𝓤) (W : Given
   abbrev to : Opened 𝓤 H A at-mem run .Ghost
   to = (((κ′, tt), (q′, tt), tt, (t, (x, (s, tt))), (tv t, (xv, (v ∷ [], tt)))), tt)
 
-  -- what `opened` is passed: the table and the options are plain data, and what the slice owns is had twice
+  -- what `opened_over` is passed: the table and the options are plain data, and what the slice owns is had twice
   asked : Is T.the-row t (tv t) → Is O.the-row x xv → ent 𝓤 (sep 𝓤 (sep 𝓤 (A .lft κ′ q′) (sem 𝓤 H A ftrue)) (sem 𝓤 H A Own)) (Opened 𝓤 H A at-mem run .pre to)
   asked gt gx =
       qed W ((‵ (flft κ′ q′) ⊛ ‵ ftrue) ∷ ‵ Own ∷ []) ∵ nothing ! $ move ! (2 ∷ 0 ∷ []) $ fjoin ! $
