@@ -1,6 +1,6 @@
 # make test: the gate. make session: the marked session of document 01. make replay FILE=..: plays a session file. make record: writes the marked session's file.
-# make bench: nanoseconds a call. make fmt: the layout of every file.
-.PHONY: test session replay record bench fmt toolchain
+# make table: a table in the terminal. make bench: nanoseconds a call. make fmt: the layout of every file.
+.PHONY: test session replay record table bench fmt toolchain
 
 toolchain:
 	@command -v rt >/dev/null || { echo "Discgauze needs the Rattle toolchain: the command 'rt' is not on the PATH." >&2; exit 1; }
@@ -16,6 +16,9 @@ replay: toolchain
 
 record: toolchain
 	@rt check record >&2 && target/bin/record
+
+table: toolchain
+	@rt check terminal >&2 && target/bin/terminal
 
 bench: toolchain
 	@rt check bench >&2 && calls=1000000 && begin=$$(date +%s%N) && target/bin/bench $$calls && end=$$(date +%s%N) && \

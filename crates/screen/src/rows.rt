@@ -1,9 +1,8 @@
 // The rows of the script, as the rehearsal's (crate `stage`). = is a heading; Q plays what follows without a drawing, S draws again.
 ghost use Prim.Native.Nat.{_≤_};
-use crate::drawing::drawn;
-use crate::drawing::heading;
 use call::At;
 use call::pay_line::LINES;
+use drawing::drawn;
 use script::end_of;
 use stage::Stage;
 use stage::calls::amount_of;
@@ -13,6 +12,8 @@ use stage::calls::played;
 use stage::first_stage;
 use stage::houses::opened;
 use stage::houses::ordered;
+use stage::write::figure;
+use stage::write::words;
 use table::Table;
 
 // What is kept from row to row: the stage, and whether it is drawn.
@@ -30,12 +31,22 @@ fn on_table(s: Show, t: Table) -> Show {
     next
 }
 
+fn heading(text: &[u8]) {
+    words(text);
+    words(b"\n");
+}
+
+// The words and the number of a call, then all that is seen of the table after it.
 fn seen(s: Show, number: u8, at: At, what: &[u8]) {
     if s.quiet {
         return;
     }
     let stage = s.stage;
-    drawn(stage.table, number, at, what);
+    words(what);
+    words(b":");
+    figure(number as u64);
+    words(b"\n");
+    drawn(stage.table, at);
 }
 
 // An opening; at 36 stand the words.

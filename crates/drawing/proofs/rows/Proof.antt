@@ -2,8 +2,8 @@
 use Prim.Native.Nat.{_≤_, _-_}
 use native.Mathlib.Omega.{arith}
 use borrow.Author.Needs.{needs}
-use Rattle.screen.proofs.drawing.rows.Statement.{statement}
-use Rattle.screen.proofs.drawing.rows.Tie as tie
+use Rattle.drawing.proofs.rows.Statement.{statement}
+use Rattle.drawing.proofs.rows.Tie as tie
 
 abbrev Inv-loop : tie.InvT-loop
 Inv-loop screen n i₀ t6 t7 i = i ≤ 6

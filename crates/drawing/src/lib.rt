@@ -1,4 +1,4 @@
-// The drawing, from reading functions alone: the dealer's screen, a guest's display, the cashier's line.
+// The drawing that programs share, from reading functions alone: the dealer's screen, a guest's display, the cashier's line.
 use call::At;
 use cards::hand::Hand;
 use dealer_screen::Screen;
@@ -15,11 +15,6 @@ use stage::write::counted;
 use stage::write::figure;
 use stage::write::words;
 use table::Table;
-
-pub(crate) fn heading(text: &[u8]) {
-    words(text);
-    words(b"\n");
-}
 
 // A field that is lit.
 fn field(lit: bool, name: &[u8]) {
@@ -143,15 +138,11 @@ fn cashier(shown: TableShown) {
     words(b"\n");
 }
 
-// Everything after a call: its words and its number, the screen, the guest's display, the cashier's line.
-pub(crate) fn drawn(t: Table, number: u8, at: At, what: &[u8]) {
+// Everything that is seen of a table: the screen, that guest's display, the cashier's line.
+pub fn drawn(t: Table, at: At) {
     let shown = shown_table(t);
     let options = shown.options;
     let screen = shown_screen(t);
-    words(what);
-    words(b":");
-    figure(number as u64);
-    words(b"\n");
     round(t, shown);
     seats(screen, options.seats);
     rows(screen);

@@ -2,8 +2,8 @@
 use Prim.Native.Nat.{_≤_, _-_}
 use native.Mathlib.Omega.{arith}
 use borrow.Author.Needs.{needs}
-use Rattle.screen.proofs.drawing.seats.Statement.{statement}
-use Rattle.screen.proofs.drawing.seats.Tie as tie
+use Rattle.drawing.proofs.seats.Statement.{statement}
+use Rattle.drawing.proofs.seats.Tie as tie
 
 abbrev Inv-loop : tie.InvT-loop
 Inv-loop many screen i₀ i = i ≤ 9
