@@ -305,16 +305,16 @@ o . 1                51 6 5 19 32 9 45 22 3
 ${deck}
 M
 S
-f   1000             fill
-b 2 100              buy
-s 2 20               stake
-D                    deal
-i 2 10               insure
-p 2                  split
-2 2                  double
-n 2                  stand
-C                    close
-n 2                  stand`,
+f   1000
+b 2 100
+s 2 20
+D
+i 2 10
+p 2
+2 2
+n 2
+C
+n 2`,
     },
     {
       name: 'A table that no opening gave',

@@ -97,8 +97,9 @@
       return 0;
     }
 
+    // Whether no call follows that is known of.
     get isAtEnd() {
-      return this.at === this.trail.length - 1 && !this.source;
+      return this.at === this.trail.length - 1 && (!this.source || this.source.total === this.step.count);
     }
 
     // One step on; false at the end.
@@ -107,9 +108,9 @@
         this.at += 1;
         return true;
       }
-      const call = this.source && this.source.next();
+      const call = this.isAtEnd ? null : this.source.next();
       if (!call) {
-        this.source = null;
+        if (this.source) this.source.total = this.step.count;
         return false;
       }
       this.play(call);

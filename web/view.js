@@ -364,7 +364,7 @@
     fill('house-fields', houseFields(r));
     fill('trail', trail(session));
     const source = session.source;
-    fill('place', 'call ' + step.count + (source && source.total ? ' of ' + source.total : ''));
+    fill('place', 'call ' + step.count + (source && source.total !== null ? ' of ' + source.total : ''));
     const set = (id, off) => (document.getElementById(id).disabled = off);
     set('first', session.at === 0);
     set('back', session.at === 0);

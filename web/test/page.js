@@ -213,7 +213,7 @@ async function sessionFiles(rows) {
   await b.click('#next');
   same(await b.ask(`document.querySelector('#next').disabled`), true, 'the end of the file');
   await b.click('#back');
-  same(await b.text('#place'), 'call 7', 'one back');
+  same(await b.text('#place'), 'call 7 of 8', 'one back');
 
   // A refused file says its number in words and changes nothing.
   const check = (block) => block.writeUInt32LE(block.subarray(0, 508).reduce((sum, byte, i) => sum + byte * (i + 1), 0), 508);
@@ -226,7 +226,7 @@ async function sessionFiles(rows) {
     await b.drop([put(name + '.discgauze', bytes)]);
     await b.until(`document.querySelector('.said').textContent.includes('${name}.discgauze is refused')`, 'the refusal of ' + name);
     same((await b.text('.said')).slice(0, 3), expected, 'the number of ' + name);
-    same(await b.text('#place'), 'call 7', 'the session stays');
+    same(await b.text('#place'), 'call 7 of 8', 'the session stays');
   }
 
   // Nor is the file that is being stepped through lost by it.
