@@ -9,7 +9,7 @@ class Browser {
   static async start(program) {
     const room = fs.mkdtempSync(path.join(os.tmpdir(), 'discgauze-page-'));
     const words = [
-      '--headless=new', '--no-sandbox', '--disable-gpu', '--hide-scrollbars', '--remote-debugging-pipe', '--no-first-run', '--disable-extensions', '--disable-background-networking',
+      '--headless=new', '--no-sandbox', '--disable-gpu', '--disable-dev-shm-usage', '--hide-scrollbars', '--remote-debugging-pipe', '--no-first-run', '--disable-extensions', '--disable-background-networking',
       '--force-device-scale-factor=1', '--force-prefers-reduced-motion', '--user-data-dir=' + path.join(room, 'profile'), 'about:blank',
     ];
     const child = spawn(program, words, { stdio: ['ignore', 'ignore', 'ignore', 'pipe', 'pipe'] });
@@ -75,7 +75,7 @@ class Browser {
   }
 
   async until(expression, what) {
-    for (let i = 0; i < 400; i += 1) {
+    for (let i = 0; i < 2400; i += 1) {
       if (await this.ask(expression)) return;
       await new Promise((go) => setTimeout(go, 25));
     }
