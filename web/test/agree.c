@@ -1,12 +1,20 @@
 // The native half of the comparison with WebAssembly: plays seeded random calls over libdiscgauze.a and writes what comes back, every struct as it lies in memory.
 // web/test/agree.js plays the same calls over WebAssembly and compares byte for byte; the two files choose the calls in the same way.
 //   agree SEED CALLS
+#include <stddef.h>
 #include <stdio.h>
 #include <stdlib.h>
 #include <string.h>
 
+// The library's header; web/test/native.h says the same in short, for a checkout without it.
+#if __has_include("../../include/discgauze.h")
+#include "../../include/discgauze.h"
+#else
 #include "native.h"
+#endif
 
+#define S(name) struct discgauze_##name
+#define LINES DISCGAUZE_LINES
 #define PUT(value) fwrite(&(value), sizeof(value), 1, stdout)
 
 static uint32_t seed;
@@ -30,7 +38,7 @@ static void size(size_t n) {
 #define AT(name, field) size(offsetof(S(name), field))
 static void layouts(void) {
     size(sizeof(S(Options)));
-    AT(Options, seats), AT(Options, decks), AT(Options, first), AT(Options, later), AT(Options, hands), AT(Options, aces), AT(Options, double_), AT(Options, limit);
+    AT(Options, seats), AT(Options, decks), AT(Options, first), AT(Options, later), AT(Options, hands), AT(Options, aces), AT(Options, doubling), AT(Options, limit);
     AT(Options, insurance), AT(Options, five), AT(Options, prize), AT(Options, device), AT(Options, decider), AT(Options, cut), AT(Options, smallest), AT(Options, largest);
     size(sizeof(S(Hand))), AT(Hand, cards), AT(Hand, count);
     size(sizeof(S(HandScore))), AT(HandScore, total), AT(HandScore, soft);
@@ -51,7 +59,7 @@ static void layouts(void) {
     AT(SeatShown, prizes), AT(SeatShown, hands);
     size(sizeof(S(HandShown))), AT(HandShown, hand), AT(HandShown, total), AT(HandShown, soft), AT(HandShown, wager), AT(HandShown, origin), AT(HandShown, ended);
     size(sizeof(S(Lights)));
-    AT(Lights, buy), AT(Lights, cash), AT(Lights, stake), AT(Lights, insure), AT(Lights, stand), AT(Lights, draw), AT(Lights, double_), AT(Lights, split);
+    AT(Lights, buy), AT(Lights, cash), AT(Lights, stake), AT(Lights, insure), AT(Lights, stand), AT(Lights, draw), AT(Lights, doubling), AT(Lights, split);
     AT(Lights, surrender), AT(Lights, even), AT(Lights, five), AT(Lights, pair), AT(Lights, sevens), AT(Lights, more), AT(Lights, less);
     size(sizeof(S(SeatLights))), AT(SeatLights, guests);
     size(sizeof(S(Row))), AT(Row, seat), AT(Row, place), AT(Row, hand), AT(Row, total);
@@ -112,7 +120,7 @@ static void house(void) {
     options.later = options.device == 2 ? 0 : below(3);
     options.hands = 2 + below(3);
     options.aces = below(2);
-    options.double_ = 1 + below(2);
+    options.doubling = 1 + below(2);
     options.limit = below(2);
     options.insurance = 1 + below(2);
     options.five = below(2);

@@ -4,9 +4,9 @@
 #include <stdint.h>
 
 #define S(name) struct discgauze_##name
-#define LINES 243
+#define DISCGAUZE_LINES 243
 
-S(Options) { uint8_t seats, decks, first, later, hands, aces, double_, limit, insurance, five, prize, device, decider; uint16_t cut; uint32_t smallest, largest; };
+S(Options) { uint8_t seats, decks, first, later, hands, aces, doubling, limit, insurance, five, prize, device, decider; uint16_t cut; uint32_t smallest, largest; };
 S(Hand) { uint8_t cards[20], count; };
 S(HandScore) { uint8_t total; bool soft; };
 S(Scores) { S(HandScore) each[9]; size_t count; };
@@ -23,7 +23,7 @@ S(TableShown) { S(Options) options; uint64_t tray, layout, purses; size_t left, 
 S(TurnShown) { bool somebody; size_t seat, place; uint8_t position; };
 S(SeatShown) { uint64_t purse; uint32_t stake, insurance, sides[4]; uint64_t layout, prizes; size_t hands; };
 S(HandShown) { S(Hand) hand; uint8_t total; bool soft; uint64_t wager; uint8_t origin, ended; };
-S(Lights) { bool buy, cash, stake, insure, stand, draw, double_, split, surrender, even, five, pair, sevens, more, less; };
+S(Lights) { bool buy, cash, stake, insure, stand, draw, doubling, split, surrender, even, five, pair, sevens, more, less; };
 S(SeatLights) { S(Lights) guests[3]; };
 S(Row) { size_t seat, place; S(Hand) hand; uint8_t total; };
 S(Screen) { S(SeatLights) seats[9]; S(Row) rows[6]; size_t shown, beyond; };
@@ -62,3 +62,5 @@ S(BankChances) discgauze_chances(uint8_t up, const uint8_t *left, size_t length,
 S(FacesLeft) discgauze_faces_left(S(Table) table);
 S(WaysCount) discgauze_ways_count(S(Table) table);
 S(Way) discgauze_way_at(S(Table) table, size_t place);
+
+#undef S
