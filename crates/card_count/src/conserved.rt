@@ -3,27 +3,23 @@
 // the bank, each face has to be there as often as there are decks. Every table is taken, a damaged one too.
 ghost use mathlib.Core.Path.{_≡_};
 ghost use mathlib.Core.Bool.{_&&_};
-ghost use Prim.Native.Nat.{_≤_};
+ghost use Prim.Native.Nat.{_*_, _≤_};
 ghost use lib.Dec.{eqb};
-ghost use lib.ListN.{getD};
+ghost use lib.ListN.{getD, take};
 ghost use Rattle.lists.specs.Below.{allBelow};
-ghost use Rattle.table.specs.Shoe.{validOrder, orderOf};
+ghost use Rattle.table.specs.Shoe.{validOrder};
 ghost use Rattle.table.specs.Broken.{soundShoe, soundDiscards, soundFaces};
 ghost use Rattle.card_count.specs.Aids.Left.{OrderFits, Left, OfValid};
 use crate::counters::count;
 use crate::counters::each_face;
 use crate::out_cards::count_in_play;
-use table::Shoe;
 use table::Table;
 
-// Whether the discards are the first cards of the order. The loop has no branch, so that the compiler compares several at a time.
-fn discards_first(sh: Shoe) -> bool
-    requires { ⌜ sh .discarded ≤ 416 ⌝ }
-    ensures { λ r. ⌜ r ≡ allBelow (λ k. eqb (getD (sh .discards) k 0) (getD (sh .order) k 0)) (sh .discarded) ⌝ }
+// Whether the first discards are the first cards of the order. The loop has no branch, so that the compiler compares several at a time.
+fn discards_first<'a>(order: &'a [u8; 416], discards: &'a [u8; 416], n: usize) -> bool
+    requires { ⌜ n ≤ 416 ⌝ }
+    ensures { λ r. ⌜ r ≡ allBelow (λ k. eqb (getD (now (discards .entry)) k 0) (getD (now (order .entry)) k 0)) n ⌝ }
 {
-    let n = sh.discarded;
-    let order = sh.order;
-    let discards = sh.discards;
     let mut all = true;
     for k in 0usize..n {
         all = all & (discards[k] == order[k]);
@@ -32,13 +28,10 @@ fn discards_first(sh: Shoe) -> bool
 }
 
 // The cards that are left and the first ones, as many as there are discards, counted.
-fn left_counts(decks: u8, sh: Shoe) -> [u16; 256]
-    requires { ⌜ OrderFits decks sh ⌝ }
-    ensures { λ r. ⌜ Left r decks sh ⌝ }
+fn left_counts(decks: u8, order: &[u8], drawn: usize, discarded: usize) -> [u16; 256]
+    requires { ⌜ OrderFits decks (now order) drawn discarded ⌝ }
+    ensures { λ r. ⌜ Left r decks (now (order .entry)) drawn discarded ⌝ }
 {
-    let order = sh.order;
-    let drawn = sh.drawn;
-    let discarded = sh.discarded;
     let all = 52 * (decks as usize);
     let mut of = [0u16; 256];
     count(&mut of, &order[drawn..all]);
@@ -47,34 +40,31 @@ fn left_counts(decks: u8, sh: Shoe) -> [u16; 256]
 }
 
 // Whether the order is valid: its other drawn cards are counted beside those.
-fn order_valid(left: [u16; 256], decks: u8, sh: Shoe) -> bool
-    requires { ⌜ Left left decks sh ⌝ }
-    ensures { λ r. ⌜ r ≡ validOrder decks (orderOf decks sh) ⌝ }
+fn order_valid(left: [u16; 256], decks: u8, order: &[u8], drawn: usize, discarded: usize) -> bool
+    requires { ⌜ Left left decks (now order) drawn discarded ⌝ }
+    ensures { λ r. ⌜ r ≡ validOrder decks (take (52 * decks) (now (order .entry))) ⌝ }
 {
-    let order = sh.order;
-    let drawn = sh.drawn;
-    let discarded = sh.discarded;
     let mut of = left;
     count(&mut of, &order[discarded..drawn]);
     each_face(&of, decks as u16)
 }
 
 // Of a valid order, whether what is out is what was drawn: the cards in hands and with the bank are counted beside those.
-fn out_is_drawn(left: [u16; 256], t: Table) -> bool
-    requires { ⌜ OfValid left t ⌝ }
+fn out_is_drawn(of: &mut [u16; 256], t: Table) -> bool
+    requires { ⌜ OfValid (now of) t ⌝ }
     ensures { λ r. ⌜ r ≡ soundFaces t ⌝ }
 {
     let options = t.options;
     let shoe = t.shoe;
-    let mut of = left;
-    let many = count_in_play(&mut of, t);
+    let many = count_in_play(of, t);
     if many + shoe.discarded != shoe.drawn {
         return false;
     }
-    each_face(&of, options.decks as u16)
+    each_face(of, options.decks as u16)
 }
 
-// Whether the order is valid, at most all of it is drawn, the discards are its first drawn cards, and what is out is what was drawn.
+// Whether the order is valid, at most all of it is drawn, the discards are its first drawn cards, and what is out is what was drawn. Order and discards are
+// lent, so that they are copied once.
 pub fn cards_conserved(t: Table) -> bool
     ensures { λ r. ⌜ r ≡ (soundShoe t && soundDiscards t && soundFaces t) ⌝ }
 {
@@ -91,9 +81,11 @@ pub fn cards_conserved(t: Table) -> bool
     if shoe.drawn < shoe.discarded {
         return false;
     }
-    if !discards_first(shoe) {
+    let order = shoe.order;
+    let discards = shoe.discards;
+    if !discards_first(&order, &discards, shoe.discarded) {
         return false;
     }
-    let left = left_counts(decks, shoe);
-    order_valid(left, decks, shoe) && out_is_drawn(left, t)
+    let mut left = left_counts(decks, &order, shoe.drawn, shoe.discarded);
+    order_valid(left, decks, &order, shoe.drawn, shoe.discarded) && out_is_drawn(&mut left, t)
 }

@@ -16,9 +16,8 @@ use Rattle.lists.proofs.Below.{all-below, below-all}
 use Rattle.lists.proofs.Parts.{part-of-take, sum-more}
 use Rattle.card_count.specs.Aids.Counters.{noCounts, countedAll, Room}
 use Rattle.card_count.proofs.counters.Counts.{counted-append, room-after, room-zeros}
-use Rattle.card_count.specs.Aids.Left.{Left, firstOf}
-use Rattle.table.specs.declared.Shoe.{Shoe}
-use Rattle.table.specs.Shoe.{validOrder, orderOf, leftOf}
+use Rattle.card_count.specs.Aids.Left.{Left, leftAndFirst}
+use Rattle.table.specs.Shoe.{validOrder}
 use Rattle.card_count.proofs.valid_order.Orders.{faces-valid, faces-decide, valid-count}
 
 -- two tests are one where each passes with the other
@@ -35,15 +34,15 @@ left-part n k xs h = sym (part-of-take (k - n) n k xs (omega arith)) ∙ take-al
 pub room-left : (of xs : List ℕ) (n : ℕ) → of ≡ countedAll noCounts xs → length xs ≤ 832 → n ≤ 1156 → Room of n
 room-left of xs n e few h = rw e (room-after noCounts xs 65535 n (room-zeros 65535 (omega arith)) (omega arith))
 
-pub room-kept : (of : List ℕ) (decks : ℕ) (sh : Shoe) (n : ℕ) → Left of decks sh → n ≤ 1156 → Room of n
-room-kept of decks sh n kept most =
-    room-left of (leftOf decks sh ++ firstOf sh) n (kept .counters)
+pub room-kept : (of : List ℕ) (decks : ℕ) (cards : List ℕ) (drawn discarded n : ℕ) → Left of decks cards drawn discarded → n ≤ 1156 → Room of n
+room-kept of decks cards drawn discarded n kept most =
+    room-left of (leftAndFirst decks cards drawn discarded) n (kept .counters)
     (omega (
       arith,
-      length-append (leftOf decks sh) (firstOf sh),
-      length-drop (sh .drawn) (orderOf decks sh),
-      length-take (52 * decks) (sh .order),
-      length-take (sh .discarded) (sh .order),
+      length-append (drop drawn (take (52 * decks) cards)) (take discarded cards),
+      length-drop drawn (take (52 * decks) cards),
+      length-take (52 * decks) cards,
+      length-take discarded cards,
       kept .within .order,
       kept .within .drawn,
       kept .within .discarded,

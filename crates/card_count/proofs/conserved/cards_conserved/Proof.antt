@@ -6,20 +6,19 @@ use native.Mathlib.Omega.{arith}
 use borrow.Author.Needs.{needs}
 use borrow.Author.Tests.{eqb-true, le-leb, lt-leb, not-true, not-false}
 use lib.Dec.{eqb}
-use lib.ListN.{length, getD, length-map}
+use lib.ListN.{length, take, getD, length-map}
 use Rattle.lists.specs.Below.{allBelow}
 use Rattle.lists.proofs.Below.{all-below}
 use Rattle.lists.proofs.Places.{taken-same}
 use Rattle.table.specs.declared.Shoe.{Shoe}
 use Rattle.table.specs.Broken.{soundShoe, soundDiscards}
 use Rattle.table.specs.Shoe.{discardsOf}
-use Rattle.card_count.specs.Aids.Left.{firstOf}
 use Rattle.card_count.proofs.valid_order.Orders.{too-short}
 use Rattle.card_count.proofs.conserved.cards_conserved.Statement.{statement}
 use Rattle.card_count.proofs.conserved.cards_conserved.Tie as tie
 
 -- what the comparison of the discards gives
-discards-are : (sh : Shoe) → length (sh .discards) ≡ length (sh .order) → allBelow (λ k. eqb (getD (sh .discards) k 0) (getD (sh .order) k 0)) (sh .discarded) ≡ true → discardsOf sh ≡ firstOf sh
+discards-are : (sh : Shoe) → length (sh .discards) ≡ length (sh .order) → allBelow (λ k. eqb (getD (sh .discards) k 0) (getD (sh .order) k 0)) (sh .discarded) ≡ true → discardsOf sh ≡ take (sh .discarded) (sh .order)
 discards-are sh same e =
     taken-same (sh .discarded) (sh .discards) (sh .order) 0
     (λ k h. eqb-true _ _ (all-below (λ i. eqb (getD (sh .discards) i 0) (getD (sh .order) i 0)) (sh .discarded) k e h)) same
@@ -56,35 +55,45 @@ returns-4 : tie.Need-returns-4
 unfolding soundDiscards
 returns-4 c = simp (sym (c .before .discards-first .ensures) ∙ not-true (c .before .discards-first .result) (c .if4 .taken), and-false)
 
+slice-aggregate-left-counts : tie.Need-slice-aggregate-left-counts
+slice-aggregate-left-counts c = search needs
+
 left-counts-requires : tie.Need-left-counts-requires
 left-counts-requires c κs = search needs
+
+slice-aggregate-order-valid : tie.Need-slice-aggregate-order-valid
+slice-aggregate-order-valid c = search needs
 
 order-valid-requires : tie.Need-order-valid-requires
 order-valid-requires c κs = search needs
 
 out-is-drawn-requires : tie.Need-out-is-drawn-requires
 out-is-drawn-requires c κs =
-    let compared = c .before .before .before in
-    let start = compared .before .before .before .before .before .before .before .before .before in
+    let checked = c .before .before in
+    let counted = checked .before .before in
+    let compared = counted .before .before in
+    let start = compared .before .before .before .before .before .before .before .before .before .before .before .before .before in
     let sh = start .args .t .shoe in
     let order : length (sh .order) ≡ 416 = simp length-map at (start .good .0 .1 .1 .1 .1 .1 .1 .0 .1 .1 .0 .1 .0 .1) in
     let discards : length (sh .discards) ≡ 416 = simp length-map at (start .good .0 .1 .1 .1 .1 .1 .1 .0 .1 .1 .1 .1 .0 .1 .0 .1) in
     record {
-      left = c .before .before .left-counts .ensures;
-      valid = sym (c .before .order-valid .ensures) ∙ c .if5 .taken;
+      left = counted .left-counts .ensures;
+      valid = sym (checked .order-valid .ensures) ∙ c .before .if5 .taken;
       discards = discards-are sh (discards ∙ sym order) (sym (compared .before .discards-first .ensures) ∙ not-false (compared .before .discards-first .result) (compared .if4 .left));
     }
 
 returns-5 : tie.Need-returns-5
 unfolding soundShoe soundDiscards
 returns-5 c =
-    let counted = c .before .before .before in
-    let compared = counted .before in
-    let sh = compared .before .before .before .before .before .before .before .before .before .args .t .shoe in
-    let decks = compared .before .before .before .before .before .before .before .before .before .args .t .options .decks in
+    let checked = c .before .before .before in
+    let counted = checked .before .before in
+    let compared = counted .before .before in
+    let start = compared .before .before .before .before .before .before .before .before .before .before .before .before .before in
+    let sh = start .args .t .shoe in
+    let decks = start .args .t .options .decks in
     let within = counted .left-counts .ensures .within in
     simp (
-      sym (c .before .before .order-valid .ensures) ∙ c .before .if5 .taken,
+      sym (checked .order-valid .ensures) ∙ c .before .before .if5 .taken,
       le-leb (sh .drawn) (52 * decks) (within .drawn),
       le-leb (sh .discarded) 416 (omega (arith, within .order, within .drawn, within .discarded)),
       le-leb (sh .discarded) (sh .drawn) (within .discarded),
@@ -107,7 +116,9 @@ cards-conserved-spec =
     returns-3
     discards-first-requires
     returns-4
+    slice-aggregate-left-counts
     left-counts-requires
+    slice-aggregate-order-valid
     order-valid-requires
     out-is-drawn-requires
     returns-5

@@ -12,20 +12,20 @@ use Rattle.card_count.proofs.conserved.discards_first.Statement.{statem
 use Rattle.card_count.proofs.conserved.discards_first.Tie as tie
 
 abbrev Inv-loop : tie.InvT-loop
-Inv-loop n order discards all₀ k₀ all k = (k ≤ n) × (all ≡ allBelow (λ i. eqb (getD discards i 0) (getD order i 0)) k)
+Inv-loop order discards n all₀ k₀ all k = (k ≤ n) × (all ≡ allBelow (λ i. eqb (getD discards i 0) (getD order i 0)) k)
 
 abbrev μ-loop : tie.MeasureT-loop
-μ-loop n order discards all₀ k₀ all k = n - k
+μ-loop order discards n all₀ k₀ all k = n - k
 
 loop-holds : tie.Need-loop-holds Inv-loop μ-loop
 unfolding allBelow
 loop-holds c = search needs
 
-array-read-all : tie.Need-array-read-all Inv-loop μ-loop
-array-read-all c = omega arith
+element-copy-out-all : tie.Need-element-copy-out-all Inv-loop μ-loop
+element-copy-out-all c = omega (arith, c .before .before .pre)
 
-array-read-all-2 : tie.Need-array-read-all-2 Inv-loop μ-loop
-array-read-all-2 c = omega arith
+element-copy-out-all-2 : tie.Need-element-copy-out-all-2 Inv-loop μ-loop
+element-copy-out-all-2 c = omega (arith, c .before .before .before .pre)
 
 add-k : tie.Need-add-k Inv-loop μ-loop
 add-k c = omega arith
@@ -35,14 +35,14 @@ loop-less c = omega arith
 
 loop-again : tie.Need-loop-again Inv-loop μ-loop
 loop-again c =
-    let at = c .before in
-    let sh = at .before .before .before .args .sh in
-    (omega arith, ap (λ (b : Bool). b && eqb (getD (sh .discards) (at .loop .k) 0) (getD (sh .order) (at .loop .k) 0)) (at .loop .inv .1) ∙ sym (below-one-more _ _))
+    let at = c .before .before .before in
+    let args = at .before .args in
+    (omega arith, ap (λ (b : Bool). b && eqb (getD (args .discards .now) (at .loop .k) 0) (getD (args .order .now) (at .loop .k) 0)) (at .loop .inv .1) ∙ sym (below-one-more _ _))
 
 returns : tie.Need-returns Inv-loop μ-loop
 returns c =
     let at = c .before in
-    let k : at .loop .k ≡ at .before .before .before .args .sh .discarded = omega arith in
+    let k : at .loop .k ≡ at .before .args .n = omega arith in
     at .loop .inv .1 ∙ ap (allBelow _) k
 
 pub discards-first-spec : {M : Type 1} → statement M
@@ -52,8 +52,8 @@ discards-first-spec =
     Inv-loop
     μ-loop
     loop-holds
-    array-read-all
-    array-read-all-2
+    element-copy-out-all
+    element-copy-out-all-2
     add-k
     loop-less
     loop-again

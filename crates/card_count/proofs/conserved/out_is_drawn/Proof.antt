@@ -6,13 +6,13 @@ use Prim.Native.Nat.{ℕ, _+_, _*_}
 use native.Mathlib.Omega.{arith}
 use borrow.Author.Needs.{needs}
 use borrow.Author.Tests.{eq-eqb, ne-eqb}
-use lib.ListN.{length, length-append, length-take}
+use lib.ListN.{length, take, length-append, length-take}
 use Rattle.table.specs.declared.Table.{Table}
 use Rattle.table.specs.Shoe.{leftOf, orderOf}
 use Rattle.table.specs.Table.{handCards, bankCards, tableDiscards}
 use Rattle.table.specs.Faces.{outCards}
 use Rattle.table.specs.Broken.{soundFaces}
-use Rattle.card_count.specs.Aids.Left.{firstOf, OfValid}
+use Rattle.card_count.specs.Aids.Left.{leftAndFirst, OfValid}
 use Rattle.card_count.proofs.conserved.Beside.{room-kept, count-first, out-decide}
 use Rattle.card_count.proofs.conserved.out_is_drawn.Statement.{statement}
 use Rattle.card_count.proofs.conserved.out_is_drawn.Tie as tie
@@ -34,7 +34,7 @@ out-many t ok =
 count-in-play-requires : tie.Need-count-in-play-requires
 count-in-play-requires c κs =
     let start = c .before .before .before in
-    room-kept (start .args .left) (start .args .t .options .decks) (start .args .t .shoe) 740 (start .pre .left) (omega arith)
+    room-kept (start .args .of .now) (start .args .t .options .decks) (start .args .t .shoe .order) (start .args .t .shoe .drawn) (start .args .t .shoe .discarded) 740 (start .pre .left) (omega arith)
 
 add-if1 : tie.Need-add-if1
 add-if1 c = search needs
@@ -62,9 +62,9 @@ returns-2 c =
     let many : length (outCards t) ≡ t .shoe .drawn = omega (arith, out-many t (start .pre)) in
     rw (eq-eqb (length (outCards t)) (t .shoe .drawn) many, and-true)
     (c .each-face .ensures
-    ∙ out-decide decks (t .shoe .drawn) (orderOf decks (t .shoe)) (leftOf decks (t .shoe) ++ firstOf (t .shoe)) (start .args .left) (kept .whole) (kept .counters) (start .pre .valid) (outCards t) many (kept .within .drawn)
+    ∙ out-decide decks (t .shoe .drawn) (orderOf decks (t .shoe)) (leftAndFirst decks (t .shoe .order) (t .shoe .drawn) (t .shoe .discarded)) (start .args .of .now) (kept .whole) (kept .counters) (start .pre .valid) (outCards t) many (kept .within .drawn)
     (handCards t ++ bankCards t) _
-    (λ b. count-first b (leftOf decks (t .shoe)) (firstOf (t .shoe)) (handCards t ++ bankCards t) (tableDiscards t) (start .pre .discards))
+    (λ b. count-first b (leftOf decks (t .shoe)) (take (t .shoe .discarded) (t .shoe .order)) (handCards t ++ bankCards t) (tableDiscards t) (start .pre .discards))
     (c .before .before .before .before .before .before .count-in-play .ensures .counters))
 
 pub out-is-drawn-spec : {M : Type 1} → statement M
