@@ -1,5 +1,5 @@
 # make test: the gate. make session: the marked session of document 01. make replay FILE=..: plays a session file. make record: writes the marked session's file.
-# make table: a table in the terminal. make bench: nanoseconds a call. make fmt: the layout of every file.
+# make table: a table in the terminal. make bench: nanoseconds and instructions a call. make fmt: the layout of every file.
 .PHONY: test session replay record table bench fmt toolchain
 
 toolchain:
@@ -23,6 +23,8 @@ table: toolchain
 bench: toolchain
 	@rt check bench >&2 && calls=1000000 && begin=$$(date +%s%N) && target/bin/bench $$calls && end=$$(date +%s%N) && \
 	echo "$$(( (end - begin) / calls )) nanoseconds a call"
+	@if command -v valgrind >/dev/null; then valgrind --tool=callgrind --callgrind-out-file=/dev/null target/bin/bench 20000 2>&1 | awk '/Collected/ { printf "%d instructions a call\n", $$NF / 20000 }'; \
+	else echo "instructions a call are counted where valgrind is installed"; fi
 
 fmt: toolchain
 	@rt fmt
