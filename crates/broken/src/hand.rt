@@ -2,15 +2,16 @@
 // number of hands `many` and the up card `up`.
 ghost use mathlib.Core.Path.{_≡_};
 ghost use Prim.Native.Nat.{_<_};
-ghost use lib.ListN.{take};
-ghost use Rattle.lists.specs.Tests.{allOf};
 ghost use Rattle.cards.specs.Hand.{cardsOf};
 ghost use Rattle.cards.specs.Length.{couldBePlayed};
 ghost use Rattle.rules.specs.SeatHand.{playedOf};
+ghost use Rattle.broken.specs.Aids.LookedAt.{LookedAt};
 ghost use Rattle.table.specs.Broken.{soundOrigin, soundDouble, soundSurrender, soundEnding, soundHand};
 use cards::card::is_ace;
 use cards::hand::Hand;
 use options::Options;
+use payment::prize::prize;
+use payment::wager::wager;
 use rules::open_calls::even_open;
 use rules::open_calls::five_open;
 use rules::seat_hand::BY_DOUBLE;
@@ -108,16 +109,30 @@ fn sound_hand(o: Options, up: u8, many: u8, h: SeatHand) -> bool
             && (could_be_played(hand) && (sound_origin(many, h) && sound_ending(o, up, many, h))))
 }
 
-// Every hand in use.
-pub(crate) fn all_sound(o: Options, up: u8, s: SeatHands) -> bool
-    ensures { λ r. ⌜ r ≡ allOf (soundHand o up (s .many)) (take (s .many) (s .places)) ⌝ }
+// What a look at a seat's hands gives: whether all in use are sound, and their wagers and prizes.
+pub(crate) struct Looked {
+    pub(crate) sound: bool,
+    pub(crate) wagers: u64,
+    pub(crate) prizes: u64,
+}
+
+// The hands in use, of a guest of that stake, in one pass.
+pub(crate) fn looked_at(o: Options, up: u8, stake: u32, s: SeatHands) -> Looked
+    ensures { λ r. ⌜ LookedAt o up stake s r ⌝ }
 {
     let n = rules::seat_hand::used(s);
+    let mut sound = true;
+    let mut wagers: u64 = 0;
+    let mut prizes: u64 = 0;
     for i in 0usize..n {
         let h = s.places[i];
-        if !sound_hand(o, up, s.many, h) {
-            return false;
-        }
+        sound = sound & sound_hand(o, up, s.many, h);
+        wagers += wager(stake, h);
+        prizes += prize(o, stake, h);
     }
-    true
+    Looked {
+        sound,
+        wagers,
+        prizes,
+    }
 }

@@ -10,7 +10,8 @@ ghost use Rattle.table.specs.Broken.{seatSound, soundBegun, soundBank, soundMon
 ghost use Rattle.money.specs.Sums.{tableSums};
 ghost use Rattle.broken.specs.Aids.OfSeats.{OfSeats};
 use crate::seat::Survey;
-use crate::seat::surveyed_seat;
+use crate::seat::surveyed_crowd;
+use crate::seat::surveyed_lone;
 use card_count::conserved::cards_conserved;
 use money::most_money::past_most_money;
 use money::sums::Sums;
@@ -20,6 +21,7 @@ use options::device::bank_at_deal;
 use options::in_range;
 use state::round::is_dealt;
 use state::round::up;
+use state::seat::nobody_beside;
 use table::Shoe;
 use table::Table;
 
@@ -34,7 +36,12 @@ fn surveyed(t: Table) -> Survey
     let seats = t.seats;
     for i in 0usize..9 {
         let s = seats[i];
-        let one = surveyed_seat(o, dealt, card, i, s);
+        let others = s.others;
+        let one = if nobody_beside(others) {
+            surveyed_lone(o, dealt, card, i, s)
+        } else {
+            surveyed_crowd(o, dealt, card, i, seats[i])
+        };
         if !one.sound {
             return Survey { sound: false, sums };
         }

@@ -1,30 +1,34 @@
 // Whether a seat of any table value is sound (docs/BROKEN.md, 4): number, stake, insurance, side stakes and prizes of each guest, and its hands, tested as
 // `table/specs/Broken.antt` does. `in_round`: a round is dealt; `up`: the up card. Every damaged value is taken.
 ghost use mathlib.Core.Path.{_≡_};
-ghost use mathlib.Core.Bool.{_&&_};
-ghost use Prim.Native.Nat.{_+_, _<_};
+ghost use mathlib.Core.Bool.{true, _&&_};
+ghost use Prim.Native.Nat.{ℕ, _+_, _<_};
 ghost use lib.Dec.{leb};
-ghost use lib.ListN.{getD};
+ghost use lib.ListN.{getD, take};
+ghost use Rattle.lists.specs.Tests.{allOf};
 ghost use Rattle.lists.specs.Below.{allBelow};
 ghost use Rattle.options.specs.Permitted.{mostSide};
+ghost use Rattle.table.specs.Guest.{nobodyIn};
 ghost use Rattle.table.specs.Seat.{guestAt, eachGuest, purse};
-ghost use Rattle.table.specs.Broken.{soundNumber, soundStake, soundInsurance, soundSides, soundHands, soundGuest, seatedFirst, soundSeat};
+ghost use Rattle.table.specs.Broken.{soundNumber, soundStake, soundInsurance, soundSides, soundHand, soundHands, soundGuest, seatedFirst, soundSeat};
 ghost use Rattle.money.specs.Sums.{guestSums, seatSums, plusSums};
 ghost use Rattle.money.specs.SumsFit.{SumsFit};
+ghost use Rattle.broken.specs.Aids.AtRest.{AtRest};
 ghost use Rattle.broken.specs.Aids.Surveyed.{Surveyed};
-use crate::hand::all_sound;
+use crate::hand::looked_at;
 use cards::card::is_ace;
 use money::sums::Sums;
 use money::sums::guest_sums;
 use money::sums::no_sums;
+use money::sums::played_sums;
 use money::sums::plus;
+use money::sums::purse_sums;
 use options::Options;
 use options::permitted::insurance_permitted;
 use options::permitted::stake_permitted;
 use state::seat::guest_at;
 use state::seat::no_money;
 use state::seat::no_sides;
-use state::seat::nobody_beside;
 use table::Seat;
 
 // What a test of guests gives: whether they are sound, and their sums, which are so worked out once.
@@ -74,16 +78,16 @@ fn sound_sides(s: Seat) -> bool
     no_sides(sides) || (0 < m.stake && small_sides(sides))
 }
 
-// No hand and none due, or hands within the option in a dealt round, each of them sound.
-fn sound_hands(o: Options, in_round: bool, up: u8, s: Seat) -> bool
-    ensures { λ r. ⌜ r ≡ soundHands o in_round up s ⌝ }
+// No hand and none due, or hands within the option in a dealt round, each of them sound, as `each` says.
+fn sound_hands(o: Options, in_round: bool, s: Seat, each: bool) -> bool
+    ensures { λ r. ⌜ ((up : ℕ) → each ≡ allOf (soundHand o up (s .hands .many)) (take (s .hands .many) (s .hands .places)) → r ≡ soundHands o in_round up s) ⌝ }
 {
     let m = s.money;
     let hands = s.hands;
     if hands.many == 0 {
         return !in_round || !(0 < m.stake);
     }
-    hands.many <= o.hands && (in_round && (0 < m.stake && all_sound(o, up, hands)))
+    hands.many <= o.hands && (in_round && (0 < m.stake && each))
 }
 
 // The prizes are within purse and laid, compared so that no sum wraps.
@@ -159,25 +163,24 @@ fn seated_first(s: Seat) -> bool
 fn sound_shared(o: Options, in_round: bool, up: u8, s: Seat) -> bool
     ensures { λ r. ⌜ r ≡ (seatedFirst s && soundHands o in_round up s) ⌝ }
 {
-    seated_first(s) && sound_hands(o, in_round, up, s)
+    let m = s.money;
+    let hands = s.hands;
+    let look = looked_at(o, up, m.stake, hands);
+    seated_first(s) && sound_hands(o, in_round, s, look.sound)
 }
 
-// The three guests of a seat, or the seated one where nobody bets beside.
+// The three guests of a seat.
 fn surveyed_guests(o: Options, in_round: bool, up: u8, i: usize, s: Seat) -> Survey
     ensures { λ r. ⌜ Surveyed (eachGuest (soundGuest o in_round up i) s) (seatSums o s) 3 r ⌝ }
 {
     let seated = surveyed_guest(o, in_round, up, i, s);
-    let others = s.others;
-    if nobody_beside(others) {
-        return seated;
-    }
     let one = surveyed_other(o, in_round, up, i, s, 1);
     let two = surveyed_other(o, in_round, up, i, s, 2);
     together(together(seated, one), two)
 }
 
-// The seat: each of its guests, and what they share.
-pub(crate) fn surveyed_seat(o: Options, in_round: bool, up: u8, i: usize, s: Seat) -> Survey
+// A seat with bets beside the seated guest: each of its guests, and what they share.
+pub(crate) fn surveyed_crowd(o: Options, in_round: bool, up: u8, i: usize, s: Seat) -> Survey
     ensures { λ r. ⌜ Surveyed (soundSeat o in_round up i s) (seatSums o s) 3 r ⌝ }
 {
     let guests = surveyed_guests(o, in_round, up, i, s);
@@ -187,4 +190,60 @@ pub(crate) fn surveyed_seat(o: Options, in_round: bool, up: u8, i: usize, s: Sea
     let sums = guests.sums;
     let sound = sound_shared(o, in_round, up, s);
     Survey { sound, sums }
+}
+
+// Whether the guest has no stake of any kind, and the seat no hand. There is no branch, so that the compiler joins the tests.
+fn at_rest(s: Seat) -> bool
+    ensures { λ r. ⌜ (r ≡ true → AtRest s) ⌝ }
+{
+    let m = s.money;
+    let sides = m.sides;
+    let hands = s.hands;
+    (hands.many == 0)
+        & (m.stake == 0)
+        & (m.insurance == 0)
+        & (sides[0] == 0)
+        & (sides[1] == 0)
+        & (sides[2] == 0)
+        & (sides[3] == 0)
+}
+
+// The guest alone at a seat, and its hands; `each`: all of these are sound, `m`: the guest's sums. The tests of `sound_guest` stand here again: what is called
+// at one place is put into the pass over the seats, and the seat is not copied.
+fn sound_alone(o: Options, in_round: bool, up: u8, i: usize, s: Seat, each: bool, m: Sums) -> bool
+    requires sums { ⌜ m ≡ guestSums o s ⌝ }
+    requires hands { ⌜ each ≡ allOf (soundHand o up (s .hands .many)) (take (s .hands .many) (s .hands .places)) ⌝ }
+    ensures { λ r. ⌜ r ≡ (soundGuest o in_round up i s && soundHands o in_round up s) ⌝ }
+{
+    sound_number(o, i, s)
+        && (sound_stake(o, s)
+            && (sound_insurance(o, in_round, up, s)
+                && (sound_sides(s) && (sound_prizes(s, m) && sound_hands(o, in_round, s, each)))))
+}
+
+// A guest alone at a seat, with a stake or a hand.
+fn surveyed_alone(o: Options, in_round: bool, up: u8, i: usize, s: Seat) -> Survey
+    requires { ⌜ nobodyIn (s .others) ≡ true ⌝ }
+    ensures { λ r. ⌜ Surveyed (soundSeat o in_round up i s) (seatSums o s) 3 r ⌝ }
+{
+    let m = s.money;
+    let hands = s.hands;
+    let look = looked_at(o, up, m.stake, hands);
+    let sums = played_sums(s, look.wagers, look.prizes);
+    let sound = sound_alone(o, in_round, up, i, s, look.sound, sums);
+    Survey { sound, sums }
+}
+
+// A seat where nobody bets beside the seated guest. A seat at rest is passed over: nothing but its number is asked, and its sums are the purse alone.
+pub(crate) fn surveyed_lone(o: Options, in_round: bool, up: u8, i: usize, s: Seat) -> Survey
+    requires { ⌜ nobodyIn (s .others) ≡ true ⌝ }
+    ensures { λ r. ⌜ Surveyed (soundSeat o in_round up i s) (seatSums o s) 3 r ⌝ }
+{
+    if at_rest(s) {
+        let m = s.money;
+        let sound = sound_number(o, i, s);
+        let sums = purse_sums(m.purse);
+        return Survey { sound, sums };
+    }
+    surveyed_alone(o, in_round, up, i, s)
 }

@@ -5,7 +5,7 @@ ghost use Rattle.rules.specs.SeatHand.{handsOf};
 ghost use Prim.Native.Nat.{_≤_};
 ghost use Rattle.payment.specs.Bets.{allSides};
 ghost use Rattle.payment.specs.Wager.{wager as wagerOf};
-ghost use Rattle.table.specs.Seat.{laid as laidOf, prizes as prizesOf};
+ghost use Rattle.table.specs.Seat.{stake as stakeOf, laid as laidOf, prizes as prizesOf};
 use options::Options;
 use payment::prize::prize;
 use payment::wager::wager;
@@ -34,8 +34,9 @@ fn all_sides(sides: [u32; 4]) -> u64
     (sides[0] as u64) + (sides[1] as u64) + (sides[2] as u64) + (sides[3] as u64)
 }
 
-// What the seat has laid: its stake before the deal, after it the wagers of its hands and its insurance; and its side stakes.
-pub fn laid(s: Seat) -> u64
+// The same where the wagers are known: the stake before the deal, after it the wagers and the insurance; and the side stakes.
+pub(crate) fn laid_with(s: Seat, wagers: u64) -> u64
+    requires { ⌜ wagers ≡ sumOf (wagerOf (stakeOf s)) (handsOf (s .hands)) ⌝ }
     ensures { λ r. ⌜ r ≡ laidOf s ⌝ }
 {
     let money = s.money;
@@ -45,7 +46,16 @@ pub fn laid(s: Seat) -> u64
     if hands.many == 0 {
         return (money.stake as u64) + beside;
     }
-    wagers(money.stake, hands) + (money.insurance as u64) + beside
+    wagers + (money.insurance as u64) + beside
+}
+
+// What the seat has laid.
+pub fn laid(s: Seat) -> u64
+    ensures { λ r. ⌜ r ≡ laidOf s ⌝ }
+{
+    let money = s.money;
+    let hands = s.hands;
+    laid_with(s, wagers(money.stake, hands))
 }
 
 // The prizes of the hands in use.

@@ -1,10 +1,14 @@
 // The money of all guests of all seats, summed in one pass. Every table is taken: a damaged purse is cut before it is added, so no sum wraps.
 ghost use mathlib.Core.Path.{_≡_};
 ghost use Prim.Native.Nat.{_<_};
-ghost use Rattle.table.specs.Seat.{guestAt};
-ghost use Rattle.money.specs.Sums.{noSums, capped, guestSums, seatSums, plusSums, tableSums};
+ghost use Rattle.lists.specs.Sum.{sumOf};
+ghost use Rattle.rules.specs.SeatHand.{handsOf};
+ghost use Rattle.payment.specs.Wager.{wager as wagerOf};
+ghost use Rattle.table.specs.Seat.{guestAt, stake as stakeOf, purse as purseOf, laid as laidOf, seatCover};
+ghost use Rattle.money.specs.Sums.{makeSums, noSums, capped, guestSums, seatSums, plusSums, tableSums};
 ghost use Rattle.money.specs.SumsFit.{SumsFit};
 use crate::seat_money::laid;
+use crate::seat_money::laid_with;
 use crate::seat_money::prizes;
 use options::Options;
 use payment::cover::cover;
@@ -63,6 +67,35 @@ pub fn guest_sums(o: Options, s: Seat) -> Sums
         stakes: money.stake as u64,
         laid: laid(s),
         prizes: prizes(o, s),
+        cover: cover(money.stake) + side_cover(sides),
+        purses: cut(money.purse),
+    }
+}
+
+// The sums of a guest who has nothing but a purse.
+pub fn purse_sums(purse: u64) -> Sums
+    ensures { λ r. ⌜ r ≡ makeSums 0 0 0 0 (capped purse) ⌝ }
+{
+    Sums {
+        stakes: 0,
+        laid: 0,
+        prizes: 0,
+        cover: 0,
+        purses: cut(purse),
+    }
+}
+
+// The sums of one guest whose hands' wagers and prizes are known. Not a part of `guest_sums`: called at one place it is put into the pass that tests every table.
+pub fn played_sums(s: Seat, wagers: u64, prizes: u64) -> Sums
+    requires { ⌜ wagers ≡ sumOf (wagerOf (stakeOf s)) (handsOf (s .hands)) ⌝ }
+    ensures { λ r. ⌜ r ≡ makeSums (stakeOf s) (laidOf s) prizes (seatCover s) (capped (purseOf s)) ⌝ }
+{
+    let money = s.money;
+    let sides = money.sides;
+    Sums {
+        stakes: money.stake as u64,
+        laid: laid_with(s, wagers),
+        prizes,
         cover: cover(money.stake) + side_cover(sides),
         purses: cut(money.purse),
     }

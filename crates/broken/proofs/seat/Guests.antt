@@ -1,28 +1,32 @@
 -- The guests of a seat, tested and summed one after the other, are the seat's test and sums.
 use mathlib.Core.Path.{_≡_, refl, sym, ap, ap₂, _∙_, subst}
-use mathlib.Core.Bool.{Bool, true, false, _&&_, and-true, and-eq-true-iff}
+use mathlib.Core.Bool.{Bool, true, false, _&&_, and-true, and-false, and-eq-true-iff}
 use mathlib.Core.List.{[], _∷_}
 use Prim.Native.Nat.{ℕ, _+_, _≤_}
 use native.Mathlib.Omega.{arith}
+use native.Mathlib.Decide.{decLe}
 use lib.Dec.{ltb, eqb}
-use borrow.Author.Tests.{le-leb, eq-eqb}
+use borrow.Author.Tests.{le-leb, eq-eqb, lt-ltb}
 use Rattle.lists.proofs.Tests.{and-at, or-other, or-unless}
 use Rattle.lists.proofs.Below.{below-all}
 use Rattle.options.specs.declared.Options.{Options}
 use Rattle.table.specs.declared.Seat.{Seat}
 use Rattle.table.specs.Guest.{isNobody, nobodyIn}
-use Rattle.table.specs.Seat.{guestAt, eachGuest, purse, laid}
+use Rattle.table.specs.Seat.{guestAt, eachGuest, purse, stake, laid, prizes, seatCover}
 use Rattle.table.specs.Broken.{soundNumber, soundStake, soundInsurance, soundSides, soundPrizes, soundHands, soundGuest, seatedFirst, soundSeat}
 use Rattle.table.specs.Aids.Sound.{NoBets}
 use Rattle.table.proofs.Guests.{guest-seated, guest-hands}
-use Rattle.table.proofs.Facts.{nothing-facts, nobody-beside, unstaked-prizes}
+use Rattle.table.proofs.Facts.{nothing-facts, nobody-beside, nothing-laid, unstaked-prizes}
 use Rattle.money.specs.declared.sums.Sums.{Sums}
-use Rattle.money.specs.Sums.{noSums, guestSums, seatSums, plusSums}
+use Rattle.money.specs.Sums.{makeSums, noSums, capped, guestSums, seatSums, plusSums}
 use Rattle.money.specs.SumsFit.{SumsFit}
 use Rattle.money.proofs.sums.Pass.{fits-in, no-guests-fit, seat-fits, nothing-summed, none-more}
+use Rattle.broken.specs.declared.hand.Looked.{Looked}
 use Rattle.broken.specs.declared.seat.Survey.{Survey}
+use Rattle.broken.specs.Aids.LookedAt.{LookedAt}
+use Rattle.broken.specs.Aids.AtRest.{AtRest}
 use Rattle.broken.specs.Aids.Surveyed.{Surveyed}
-use Rattle.broken.proofs.seat.Laws.{sides-none}
+use Rattle.broken.proofs.seat.Laws.{sides-none, unseated}
 
 -- the sums of a survey are within the bound of more guests
 pub survey-fits : (test : Bool) (m : Sums) (k n : ℕ) (v : Survey) → k ≤ n → Surveyed test m k v → SumsFit n (v .sums)
@@ -86,6 +90,59 @@ module _ (o : Options) (inRound : Bool) (up i : ℕ) where
             go : (b : Bool) → b ≡ passes s → b ≡ b && soundNumber o i (guestAt s p)
             go true e = sym (number-beside p none (sym e))
             go false e = refl
+
+    -- there nobody stakes before the seated guest
+    lone-first : nobodyIn (s .others) ≡ true → seatedFirst s ≡ true
+    unfolding seatedFirst
+    lone-first nobody = go (decLe (stake s) 0)
+      where
+        none : (p : ℕ) → isNobody (guestAt s p .money) ≡ true → eqb (stake (guestAt s p)) 0 ≡ true
+        none p e = eq-eqb _ _ (nothing-facts (guestAt s p) e .1 .no-stake)
+
+        go : Dec (stake s ≤ 0) → seatedFirst s ≡ true
+        go (yes h) = let (first, second) = nobody-beside s nobody in unseated s h ∙ simp (none 1 first, none 2 second)
+        go (no h) = simp (lt-ltb 0 (stake s) (omega arith))
+
+    -- and the seat is the seated guest and the hands
+    pub lone-seat : (a : Survey) → nobodyIn (s .others) ≡ true → a .sound ≡ passes s && soundHands o inRound up s → a .sums ≡ guestSums o s → SumsFit 1 (guestSums o s)
+        → Surveyed (soundSeat o inRound up i s) (seatSums o s) 3 a
+    unfolding soundSeat
+    lone-seat a nobody sound sums fits =
+        let each = alone (record { sound = passes s; sums = a .sums }) nobody (record { sound = refl; sums = sums; fits = fits }) in
+        record {
+          sound =
+              sound ∙ ap (λ (b : Bool). b && soundHands o inRound up s) (each .sound ∙ sym (and-true (eachGuest passes s)))
+              ∙ sym (ap (λ (b : Bool). eachGuest passes s && b && soundHands o inRound up s) (lone-first nobody));
+          sums = each .sums;
+          fits = each .fits;
+        }
+
+    -- the guest's sums, by the look at the hands
+    pub by-look : (look : Looked) (m : Sums) → LookedAt o up (stake s) (s .hands) look → m ≡ makeSums (stake s) (laid s) (look .prizes) (seatCover s) (capped (purse s)) → m ≡ guestSums o s
+    unfolding prizes
+    by-look look m f e = e ∙ ap (λ (n : ℕ). makeSums (stake s) (laid s) n (seatCover s) (capped (purse s))) (f .prizes)
+
+    -- at rest no hand is due, and the guest's sums are the purse alone
+    module _ (rest : AtRest s) where
+      none-due : soundHands o inRound up s ≡ true
+      unfolding soundHands
+      none-due = simp (rest .no-hand, rest .bets .no-stake, and-false)
+
+      purse-alone : guestSums o s ≡ makeSums 0 0 0 0 (capped (purse s))
+      purse-alone =
+          let bets = rest .bets in
+          let cover : seatCover s ≡ 0 =
+          omega (arith, bets .no-stake, bets .no-sides 0 (omega arith), bets .no-sides 1 (omega arith), bets .no-sides 2 (omega arith), bets .no-sides 3 (omega arith)) in
+          λ j. makeSums (bets .no-stake j) (nothing-laid s bets j) (unstaked-prizes o s (bets .no-stake) j) (cover j) (capped (purse s))
+
+      purse-fits : SumsFit 1 (guestSums o s)
+      purse-fits =
+          rw purse-alone (record { stakes = omega arith; laid = omega arith; prizes = omega arith; cover = omega arith; purses = omega arith })
+
+      pub resting : (a : Survey) → nobodyIn (s .others) ≡ true → a .sound ≡ soundNumber o i s → a .sums ≡ makeSums 0 0 0 0 (capped (purse s))
+          → Surveyed (soundSeat o inRound up i s) (seatSums o s) 3 a
+      resting a nobody number sums =
+          lone-seat a nobody (number ∙ sym (empty-sound s (rest .bets)) ∙ sym (ap (λ (b : Bool). passes s && b) none-due ∙ and-true (passes s))) (sums ∙ sym purse-alone) purse-fits
 
     -- a guest who is not sound decides; where each is, what they share does
     pub guest-fails : (m : Sums) (v : Survey) → Surveyed (eachGuest passes s) m 3 v → v .sound ≡ false → Surveyed (soundSeat o inRound up i s) m 3 v

@@ -1,7 +1,7 @@
--- The test of four side stakes, without a stake and with one; and that of the seated guest's stake, where there is none.
+-- The test of four side stakes, without a stake and with one; that of the prizes; and that of the seated guest's stake, where there is none.
 use mathlib.Core.Path.{_≡_, refl, sym, ap, ap₂, _∙_}
 use mathlib.Core.Bool.{Bool, true, false, not, or-false, _&&_, _||_}
-use Prim.Native.Nat.{ℕ, _≤_}
+use Prim.Native.Nat.{ℕ, _+_, _≤_}
 use native.Mathlib.Omega.{arith}
 use native.Mathlib.Decide.{decLe}
 use lib.Dec.{eqb, leb, ltb}
@@ -9,11 +9,14 @@ use lib.ListN.{getD}
 use borrow.Author.Tests.{lt-ltb, le-ltb, le-leb, eq-eqb, ne-eqb}
 use Rattle.lists.specs.Below.{allBelow}
 use Rattle.lists.proofs.Below.{all-below, below-all, all-below-same}
+use Rattle.options.specs.declared.Options.{Options}
 use Rattle.options.specs.Permitted.{mostSide}
 use Rattle.table.specs.declared.Seat.{Seat}
-use Rattle.table.specs.Seat.{guestAt, stake, sides, isStaked}
-use Rattle.table.specs.Broken.{soundSides, seatedFirst}
+use Rattle.table.specs.Seat.{guestAt, purse, stake, sides, isStaked}
+use Rattle.table.specs.Broken.{soundSides, soundPrizes, seatedFirst}
 use Rattle.table.proofs.Guests.{guest-seated}
+use Rattle.money.specs.declared.sums.Sums.{Sums}
+use Rattle.money.specs.Sums.{guestSums}
 
 -- none is within the limit, so that a test for none adds nothing
 small : (n : ℕ) → eqb n 0 || leb n mostSide ≡ leb n mostSide
@@ -22,6 +25,11 @@ small n = go (decLe n 0)
     go : Dec (n ≤ 0) → eqb n 0 || leb n mostSide ≡ leb n mostSide
     go (yes none) = simp (eq-eqb n 0 (omega arith)) (sym (le-leb n mostSide (omega arith)))
     go (no some) = simp (ne-eqb n 0 (omega arith))
+
+-- the test of the prizes, by the guest's sums
+pub by-sums : (o : Options) (s : Seat) (m : Sums) → m ≡ guestSums o s → leb (m .prizes) (purse s + m .laid) ≡ soundPrizes o s
+unfolding soundPrizes
+by-sums o s m e = ap (λ (x : Sums). leb (x .prizes) (purse s + x .laid)) e
 
 module _ (s : Seat) where
   pub sides-none : allBelow (λ k. eqb (getD (sides s) k 0) 0) 4 ≡ true → soundSides s ≡ true

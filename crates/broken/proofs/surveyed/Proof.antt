@@ -1,6 +1,7 @@
 -- `surveyed` looks seat by seat: before each turn the first i are sound and their sums added up, and the first that is not sound decides.
-use mathlib.Core.Path.{_≡_, refl, sym, ap, _∙_}
+use mathlib.Core.Path.{_≡_, refl, sym, ap, _∙_, subst}
 use mathlib.Core.Bool.{Bool, true, false, true≢false}
+use mathlib.Core.Logic.{⊎-elim}
 use mathlib.Core.List.{List}
 use Prim.Native.Nat.{ℕ, _-_, _*_, _≤_}
 use native.Mathlib.Omega.{arith}
@@ -17,9 +18,10 @@ use Rattle.table.specs.declared.Table.{Table}
 use Rattle.table.specs.Seat.{missingSeat}
 use Rattle.table.specs.Table.{isDealt, up}
 use Rattle.table.specs.Broken.{soundSeat, seatSound}
-use Rattle.money.specs.Sums.{sumsOver}
+use Rattle.money.specs.Sums.{seatSums, sumsOver}
 use Rattle.money.specs.SumsFit.{SumsFit}
 use Rattle.money.proofs.sums.Pass.{next-seat, fits-in, no-guests-fit, three-more}
+use Rattle.broken.specs.Aids.Surveyed.{Surveyed}
 use Rattle.broken.proofs.seat.Guests.{survey-fits}
 use Rattle.broken.proofs.surveyed.Statement.{statement}
 use Rattle.broken.proofs.surveyed.Tie as tie
@@ -68,29 +70,48 @@ mul-s c = search needs
 array-copy-out-s : tie.Need-array-copy-out-s Inv-loop μ-loop
 array-copy-out-s c = search needs
 
-surveyed-seat-requires : tie.Need-surveyed-seat-requires Inv-loop μ-loop
-surveyed-seat-requires c κs = search needs
+nobody-beside-requires : tie.Need-nobody-beside-requires Inv-loop μ-loop
+nobody-beside-requires c κs = search needs
+
+surveyed-lone-requires : tie.Need-surveyed-lone-requires Inv-loop μ-loop
+surveyed-lone-requires c κs = sym (c .before .nobody-beside .ensures) ∙ c .if1 .taken
+
+mul-surveyed-crowd : tie.Need-mul-surveyed-crowd Inv-loop μ-loop
+mul-surveyed-crowd c = search needs
+
+array-copy-out-surveyed-crowd : tie.Need-array-copy-out-surveyed-crowd Inv-loop μ-loop
+array-copy-out-surveyed-crowd c = search needs
+
+surveyed-crowd-requires : tie.Need-surveyed-crowd-requires Inv-loop μ-loop
+surveyed-crowd-requires c κs = search needs
+
+-- by either way the seat is surveyed
+joined : (c : tie.Joined1 Inv-loop μ-loop)
+    → let at = c .before .before .before .before .before in
+    let t = at .before .before .before .before .before .before .args .t in
+    Surveyed (passes (t .options) (at .before .before .before .before .is-dealt .result) (at .before .before .before .up .result) (t .seats) (at .loop .i)) (seatSums (t .options) (getD (t .seats) (at .loop .i) missingSeat)) 3 (c .if1 .one)
+joined c = ⊎-elim (λ w. subst (Surveyed _ _ 3) (sym (w .2)) (w .1 .ensures)) (λ w. subst (Surveyed _ _ 3) (sym (w .3)) (w .2 .ensures)) (c .if1 .came)
 
 returns : tie.Need-returns Inv-loop μ-loop
 returns c =
-    let at = c .before .before .before .before .before in
+    let met = c .before .before in
+    let at = met .before .before .before .before .before in
     let start = at .before .before .before .before .before .before in
     let t = start .args .t in
     let card = at .before .before .before .up in
     let dealt = at .before .before .before .before .is-dealt in
-    let one = c .before .before .surveyed-seat in
     record {
       each =
-          fails (passes (t .options) (dealt .result) (card .result) (t .seats)) (at .loop .i) (omega arith) (sym (one .ensures .sound) ∙ not-true (one .result .sound) (c .if1 .taken))
+          fails (passes (t .options) (dealt .result) (card .result) (t .seats)) (at .loop .i) (omega arith) (sym (joined met .sound) ∙ not-true (met .if1 .one .sound) (c .if2 .taken))
           ∙ same t (card .result) (dealt .result) (dealt .ensures) (card .ensures);
       sums = λ e. absurd (true≢false (sym e));
     }
 
 plus-requires : tie.Need-plus-requires Inv-loop μ-loop
 plus-requires c κs =
-    let at = c .before .before .before .before .before in
-    let one = c .before .before .surveyed-seat in
-    (fits-in (3 * at .loop .i) 27 (at .loop .sums) (omega arith) (at .loop .inv .3), survey-fits _ _ 3 27 (one .result) (omega arith) (one .ensures))
+    let met = c .before .before in
+    let at = met .before .before .before .before .before in
+    (fits-in (3 * at .loop .i) 27 (at .loop .sums) (omega arith) (at .loop .inv .3), survey-fits _ _ 3 27 (met .if1 .one) (omega arith) (joined met))
 
 add-i : tie.Need-add-i Inv-loop μ-loop
 add-i c = search needs
@@ -100,19 +121,20 @@ loop-less c = search needs
 
 loop-again : tie.Need-loop-again Inv-loop μ-loop
 loop-again c =
-    let at = c .before .before .before .before .before .before in
+    let met = c .before .before .before in
+    let at = met .before .before .before .before .before in
     let start = at .before .before .before .before .before .before in
     let t = start .args .t in
     let card = at .before .before .before .up in
     let dealt = at .before .before .before .before .is-dealt in
     let i = at .loop .i in
     let full : length (t .seats) ≡ 9 = simp length-map at (start .good .0 .1 .1 .1 .1 .0 .1 .0 .1) in
-    let one = c .before .before .before .surveyed-seat in
-    let m = one .result .sums in (
+    let one = joined met in
+    let m = met .if1 .one .sums in (
       omega arith,
-      below-passes (passes (t .options) (dealt .result) (card .result) (t .seats)) i (sym (one .ensures .sound) ∙ not-false (one .result .sound) (c .before .if1 .left)) ∙ at .loop .inv .1,
-      c .plus .ensures ∙ next-seat (t .options) (t .seats) i (omega arith) (at .loop .sums) m (at .loop .inv .2) (one .ensures .sums),
-      three-more i (at .loop .sums) m (c .plus .result) (at .loop .inv .3) (survey-fits _ _ 3 3 (one .result) (omega arith) (one .ensures)) (c .plus .ensures),
+      below-passes (passes (t .options) (dealt .result) (card .result) (t .seats)) i (sym (one .sound) ∙ not-false (met .if1 .one .sound) (c .before .if2 .left)) ∙ at .loop .inv .1,
+      c .plus .ensures ∙ next-seat (t .options) (t .seats) i (omega arith) (at .loop .sums) m (at .loop .inv .2) (one .sums),
+      three-more i (at .loop .sums) m (c .plus .result) (at .loop .inv .3) (survey-fits _ _ 3 3 (met .if1 .one) (omega arith) one) (c .plus .ensures),
     )
 
 returns-2 : tie.Need-returns-2 Inv-loop μ-loop
@@ -141,7 +163,11 @@ surveyed-spec =
     loop-holds
     mul-s
     array-copy-out-s
-    surveyed-seat-requires
+    nobody-beside-requires
+    surveyed-lone-requires
+    mul-surveyed-crowd
+    array-copy-out-surveyed-crowd
+    surveyed-crowd-requires
     returns
     plus-requires
     add-i

@@ -1,21 +1,10 @@
 -- The tests are the definition's, in its order.
-use mathlib.Core.Path.{_≡_, sym, ap, _∙_}
-use Prim.Native.Nat.{_+_}
-use lib.Dec.{leb}
-use Rattle.options.specs.declared.Options.{Options}
-use Rattle.table.specs.declared.Seat.{Seat}
-use Rattle.table.specs.Seat.{purse}
-use Rattle.table.specs.Broken.{soundPrizes, soundGuest}
-use Rattle.money.specs.declared.sums.Sums.{Sums}
-use Rattle.money.specs.Sums.{guestSums}
+use mathlib.Core.Path.{sym, _∙_}
+use Rattle.table.specs.Broken.{soundGuest}
 use borrow.Author.Needs.{needs}
+use Rattle.broken.proofs.seat.Laws.{by-sums}
 use Rattle.broken.proofs.seat.sound_guest.Statement.{statement}
 use Rattle.broken.proofs.seat.sound_guest.Tie as tie
-
--- the test of the prizes, by the guest's sums
-by-sums : (o : Options) (s : Seat) (m : Sums) → m ≡ guestSums o s → leb (m .prizes) (purse s + m .laid) ≡ soundPrizes o s
-unfolding soundPrizes
-by-sums o s m e = ap (λ (x : Sums). leb (x .prizes) (purse s + x .laid)) e
 
 sound-number-requires : tie.Need-sound-number-requires
 sound-number-requires c κs = search needs

@@ -9,30 +9,29 @@ use Rattle.broken.proofs.seat.sound_hands.Tie as tie
 
 returns : tie.Need-returns
 unfolding soundHands
-returns c = simp (c .before .if1 .taken, not-true (c .before .before .before .before .before .args .in-round) (c .if2 .taken))
+returns c = λ up same. simp (c .before .if1 .taken, not-true (c .before .before .before .before .before .args .in-round) (c .if2 .taken))
 
 returns-2 : tie.Need-returns-2
 unfolding soundHands
-returns-2 c = simp (c .before .before .if1 .taken, not-false (c .before .before .before .before .before .before .args .in-round) (c .before .if2 .left), or-false)
-
-all-sound-requires : tie.Need-all-sound-requires
-all-sound-requires c κs = search needs
+returns-2 c = λ up same. simp (c .before .before .if1 .taken, not-false (c .before .before .before .before .before .before .args .in-round) (c .before .if2 .left), or-false)
 
 returns-3 : tie.Need-returns-3
 unfolding soundHands
 returns-3 c =
+    λ up same.
     simp (
-      ne-eqb _ _ (c .before .before .before .before .before .before .before .if1 .left),
-      le-leb _ _ (c .before .before .before .before .if3 .taken),
-      c .before .before .before .if4 .taken,
-      lt-ltb _ _ (c .before .if5 .taken),
-      lt-ltb 0 (c .before .before .before .before .before .before .before .before .before .before .before .args .s .hands .many) (omega (arith, c .before .before .before .before .before .before .before .if1 .left)),
-      c .all-sound .ensures,
+      ne-eqb _ _ (c .before .before .before .before .before .before .if1 .left),
+      le-leb _ _ (c .before .before .before .if3 .taken),
+      c .before .before .if4 .taken,
+      lt-ltb _ _ (c .if5 .taken),
+      lt-ltb 0 (c .before .before .before .before .before .before .before .before .before .before .args .s .hands .many) (omega (arith, c .before .before .before .before .before .before .if1 .left)),
+      same,
     )
 
 returns-4 : tie.Need-returns-4
 unfolding soundHands
 returns-4 c =
+    λ up same.
     simp (
       ne-eqb _ _ (c .before .before .before .before .before .before .if1 .left),
       le-leb _ _ (c .before .before .before .if3 .taken),
@@ -44,6 +43,7 @@ returns-4 c =
 returns-5 : tie.Need-returns-5
 unfolding soundHands
 returns-5 c =
+    λ up same.
     simp (
       ne-eqb _ _ (c .before .before .before .before .if1 .left),
       le-leb _ _ (c .before .if3 .taken),
@@ -54,6 +54,7 @@ returns-5 c =
 returns-6 : tie.Need-returns-6
 unfolding soundHands
 returns-6 c =
+    λ up same.
     simp (
       ne-eqb _ _ (c .before .before .before .if1 .left),
       lt-leb _ _ (c .if3 .left),
@@ -66,7 +67,6 @@ sound-hands-spec =
     (tie.spec
     returns
     returns-2
-    all-sound-requires
     returns-3
     returns-4
     returns-5

@@ -3,8 +3,8 @@ use borrow.Author.Needs.{needs}
 use borrow.Author.Tests.{not-true, not-false}
 use Rattle.money.specs.Sums.{seatSums}
 use Rattle.broken.proofs.seat.Guests.{guest-fails, guests-pass}
-use Rattle.broken.proofs.seat.surveyed_seat.Statement.{statement}
-use Rattle.broken.proofs.seat.surveyed_seat.Tie as tie
+use Rattle.broken.proofs.seat.surveyed_crowd.Statement.{statement}
+use Rattle.broken.proofs.seat.surveyed_crowd.Tie as tie
 
 surveyed-guests-requires : tie.Need-surveyed-guests-requires
 surveyed-guests-requires c κs = search needs
@@ -27,5 +27,5 @@ returns-2 c =
     guests-pass (a .o) (a .in-round) (a .up) (a .i) (a .s) (seatSums (a .o) (a .s)) (guests .result) (c .sound-shared .result) (guests .ensures)
     (not-false (guests .result .sound) (c .before .before .if1 .left)) (c .sound-shared .ensures)
 
-pub surveyed-seat-spec : {M : Type 1} → statement M
-surveyed-seat-spec = tie.close (tie.spec surveyed-guests-requires returns sound-shared-requires returns-2)
+pub surveyed-crowd-spec : {M : Type 1} → statement M
+surveyed-crowd-spec = tie.close (tie.spec surveyed-guests-requires returns sound-shared-requires returns-2)
