@@ -6,12 +6,7 @@
 #include <stdlib.h>
 #include <string.h>
 
-// The library's header; web/test/native.h says the same in short, for a checkout without it.
-#if __has_include("../../include/discgauze.h")
 #include "../../include/discgauze.h"
-#else
-#include "native.h"
-#endif
 
 #define S(name) struct discgauze_##name
 #define LINES DISCGAUZE_LINES
