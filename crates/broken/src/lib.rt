@@ -10,6 +10,7 @@ ghost use Rattle.table.specs.Broken.{seatSound, soundBegun, soundBank, soundMon
 ghost use Rattle.money.specs.Sums.{tableSums};
 ghost use Rattle.broken.specs.Aids.OfSeats.{OfSeats};
 use crate::seat::Survey;
+use crate::seat::lone;
 use crate::seat::surveyed_crowd;
 use crate::seat::surveyed_lone;
 use card_count::conserved::cards_conserved;
@@ -21,11 +22,11 @@ use options::device::bank_at_deal;
 use options::in_range;
 use state::round::is_dealt;
 use state::round::up;
-use state::seat::nobody_beside;
 use table::Shoe;
 use table::Table;
 
-// The pass over the nine seats. They are taken out of the table first, so that the loop keeps a copy of the seats alone.
+// The pass over the nine seats. They are taken out of the table first, so that the loop keeps a copy of the seats alone. A seat with bets beside the seated
+// guest is read a second time: so the first, which most seats need alone, is no copy.
 fn surveyed(t: Table) -> Survey
     ensures { λ r. ⌜ OfSeats t r ⌝ }
 {
@@ -37,7 +38,7 @@ fn surveyed(t: Table) -> Survey
     for i in 0usize..9 {
         let s = seats[i];
         let others = s.others;
-        let one = if nobody_beside(others) {
+        let one = if lone(others) {
             surveyed_lone(o, dealt, card, i, s)
         } else {
             surveyed_crowd(o, dealt, card, i, seats[i])

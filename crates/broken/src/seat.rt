@@ -1,14 +1,14 @@
 // Whether a seat of any table value is sound (docs/BROKEN.md, 4): number, stake, insurance, side stakes and prizes of each guest, and its hands, tested as
 // `table/specs/Broken.antt` does. `in_round`: a round is dealt; `up`: the up card. Every damaged value is taken.
 ghost use mathlib.Core.Path.{_≡_};
-ghost use mathlib.Core.Bool.{true, _&&_};
+ghost use mathlib.Core.Bool.{true, _&&_, _||_};
 ghost use Prim.Native.Nat.{ℕ, _+_, _<_};
-ghost use lib.Dec.{leb};
+ghost use lib.Dec.{eqb, leb, ltb};
 ghost use lib.ListN.{getD, take};
 ghost use Rattle.lists.specs.Tests.{allOf};
 ghost use Rattle.lists.specs.Below.{allBelow};
 ghost use Rattle.options.specs.Permitted.{mostSide};
-ghost use Rattle.table.specs.Guest.{nobodyIn};
+ghost use Rattle.table.specs.Guest.{isNobody, nobodyIn};
 ghost use Rattle.table.specs.Seat.{guestAt, eachGuest, purse};
 ghost use Rattle.table.specs.Broken.{soundNumber, soundStake, soundInsurance, soundSides, soundHand, soundHands, soundGuest, seatedFirst, soundSeat};
 ghost use Rattle.money.specs.Sums.{guestSums, seatSums, plusSums};
@@ -29,6 +29,7 @@ use options::permitted::stake_permitted;
 use state::seat::guest_at;
 use state::seat::no_money;
 use state::seat::no_sides;
+use table::Money;
 use table::Seat;
 
 // What a test of guests gives: whether they are sound, and their sums, which are so worked out once.
@@ -192,20 +193,38 @@ pub(crate) fn surveyed_crowd(o: Options, in_round: bool, up: u8, i: usize, s: Se
     Survey { sound, sums }
 }
 
-// Whether the guest has no stake of any kind, and the seat no hand. There is no branch, so that the compiler joins the tests.
+// The same as `no_sides`, `no_money` and `nobody_beside`, and the test for a seat at rest, without a branch: the compiler joins the tests of a seat, which are
+// passed nearly always.
+fn sideless(sides: [u32; 4]) -> bool
+    ensures { λ r. ⌜ r ≡ allBelow (λ k. eqb (getD sides k 0) 0) 4 ⌝ }
+{
+    (sides[0] == 0) & (sides[1] == 0) & (sides[2] == 0) & (sides[3] == 0)
+}
+
+fn nobody(m: Money) -> bool
+    ensures { λ r. ⌜ r ≡ isNobody m ⌝ }
+{
+    let sides = m.sides;
+    (m.purse == 0) & (m.stake == 0) & (m.insurance == 0) & sideless(sides)
+}
+
+// Whether nobody bets beside the seated guest.
+pub(crate) fn lone(others: [Money; 2]) -> bool
+    ensures { λ r. ⌜ r ≡ nobodyIn others ⌝ }
+{
+    let one = others[0];
+    let two = others[1];
+    nobody(one) & nobody(two)
+}
+
+// Whether the guest has no stake of any kind, and the seat no hand.
 fn at_rest(s: Seat) -> bool
     ensures { λ r. ⌜ (r ≡ true → AtRest s) ⌝ }
 {
     let m = s.money;
     let sides = m.sides;
     let hands = s.hands;
-    (hands.many == 0)
-        & (m.stake == 0)
-        & (m.insurance == 0)
-        & (sides[0] == 0)
-        & (sides[1] == 0)
-        & (sides[2] == 0)
-        & (sides[3] == 0)
+    (hands.many == 0) & (m.stake == 0) & (m.insurance == 0) & sideless(sides)
 }
 
 // The guest alone at a seat, and its hands; `each`: all of these are sound, `m`: the guest's sums. The tests of `sound_guest` stand here again: what is called
@@ -234,6 +253,13 @@ fn surveyed_alone(o: Options, in_round: bool, up: u8, i: usize, s: Seat) -> Surv
     Survey { sound, sums }
 }
 
+// At a seat beyond the option a guest has no purse.
+fn purse_fits(o: Options, i: usize, purse: u64) -> bool
+    ensures { λ r. ⌜ r ≡ (ltb i (o .seats) || eqb purse 0) ⌝ }
+{
+    i < (o.seats as usize) || purse == 0
+}
+
 // A seat where nobody bets beside the seated guest. A seat at rest is passed over: nothing but its number is asked, and its sums are the purse alone.
 pub(crate) fn surveyed_lone(o: Options, in_round: bool, up: u8, i: usize, s: Seat) -> Survey
     requires { ⌜ nobodyIn (s .others) ≡ true ⌝ }
@@ -241,7 +267,7 @@ pub(crate) fn surveyed_lone(o: Options, in_round: bool, up: u8, i: usize, s: Sea
 {
     if at_rest(s) {
         let m = s.money;
-        let sound = sound_number(o, i, s);
+        let sound = purse_fits(o, i, m.purse);
         let sums = purse_sums(m.purse);
         return Survey { sound, sums };
     }

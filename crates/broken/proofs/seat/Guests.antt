@@ -1,18 +1,19 @@
 -- The guests of a seat, tested and summed one after the other, are the seat's test and sums.
 use mathlib.Core.Path.{_≡_, refl, sym, ap, ap₂, _∙_, subst}
-use mathlib.Core.Bool.{Bool, true, false, _&&_, and-true, and-false, and-eq-true-iff}
+use mathlib.Core.Bool.{Bool, true, false, _&&_, _||_, and-true, and-false, and-eq-true-iff}
 use mathlib.Core.List.{[], _∷_}
 use Prim.Native.Nat.{ℕ, _+_, _≤_}
 use native.Mathlib.Omega.{arith}
 use native.Mathlib.Decide.{decLe}
 use lib.Dec.{ltb, eqb}
+use lib.ListN.{getD}
 use borrow.Author.Tests.{le-leb, eq-eqb, lt-ltb}
 use Rattle.lists.proofs.Tests.{and-at, or-other, or-unless}
 use Rattle.lists.proofs.Below.{below-all}
 use Rattle.options.specs.declared.Options.{Options}
 use Rattle.table.specs.declared.Seat.{Seat}
 use Rattle.table.specs.Guest.{isNobody, nobodyIn}
-use Rattle.table.specs.Seat.{guestAt, eachGuest, purse, stake, laid, prizes, seatCover}
+use Rattle.table.specs.Seat.{guestAt, eachGuest, purse, stake, sides, laid, prizes, seatCover}
 use Rattle.table.specs.Broken.{soundNumber, soundStake, soundInsurance, soundSides, soundPrizes, soundHands, soundGuest, seatedFirst, soundSeat}
 use Rattle.table.specs.Aids.Sound.{NoBets}
 use Rattle.table.proofs.Guests.{guest-seated, guest-hands}
@@ -139,10 +140,16 @@ module _ (o : Options) (inRound : Bool) (up i : ℕ) where
       purse-fits =
           rw purse-alone (record { stakes = omega arith; laid = omega arith; prizes = omega arith; cover = omega arith; purses = omega arith })
 
-      pub resting : (a : Survey) → nobodyIn (s .others) ≡ true → a .sound ≡ soundNumber o i s → a .sums ≡ makeSums 0 0 0 0 (capped (purse s))
+      -- of the seat's number no more is asked than that of the purse
+      number-alone : soundNumber o i s ≡ (ltb i (o .seats) || eqb (purse s) 0)
+      unfolding soundNumber
+      number-alone =
+          simp (rest .no-hand, eq-eqb _ _ (rest .bets .no-stake), eq-eqb _ _ (rest .bets .no-insurance), below-all (λ k. eqb (getD (sides s) k 0) 0) 4 (λ k h. eq-eqb _ _ (rest .bets .no-sides k h)), and-true)
+
+      pub resting : (a : Survey) → nobodyIn (s .others) ≡ true → a .sound ≡ (ltb i (o .seats) || eqb (purse s) 0) → a .sums ≡ makeSums 0 0 0 0 (capped (purse s))
           → Surveyed (soundSeat o inRound up i s) (seatSums o s) 3 a
       resting a nobody number sums =
-          lone-seat a nobody (number ∙ sym (empty-sound s (rest .bets)) ∙ sym (ap (λ (b : Bool). passes s && b) none-due ∙ and-true (passes s))) (sums ∙ sym purse-alone) purse-fits
+          lone-seat a nobody (number ∙ sym number-alone ∙ sym (empty-sound s (rest .bets)) ∙ sym (ap (λ (b : Bool). passes s && b) none-due ∙ and-true (passes s))) (sums ∙ sym purse-alone) purse-fits
 
     -- a guest who is not sound decides; where each is, what they share does
     pub guest-fails : (m : Sums) (v : Survey) → Surveyed (eachGuest passes s) m 3 v → v .sound ≡ false → Surveyed (soundSeat o inRound up i s) m 3 v

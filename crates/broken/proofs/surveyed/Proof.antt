@@ -70,11 +70,11 @@ mul-s c = search needs
 array-copy-out-s : tie.Need-array-copy-out-s Inv-loop μ-loop
 array-copy-out-s c = search needs
 
-nobody-beside-requires : tie.Need-nobody-beside-requires Inv-loop μ-loop
-nobody-beside-requires c κs = search needs
+lone-requires : tie.Need-lone-requires Inv-loop μ-loop
+lone-requires c κs = search needs
 
 surveyed-lone-requires : tie.Need-surveyed-lone-requires Inv-loop μ-loop
-surveyed-lone-requires c κs = sym (c .before .nobody-beside .ensures) ∙ c .if1 .taken
+surveyed-lone-requires c κs = sym (c .before .lone .ensures) ∙ c .if1 .taken
 
 mul-surveyed-crowd : tie.Need-mul-surveyed-crowd Inv-loop μ-loop
 mul-surveyed-crowd c = search needs
@@ -163,7 +163,7 @@ surveyed-spec =
     loop-holds
     mul-s
     array-copy-out-s
-    nobody-beside-requires
+    lone-requires
     surveyed-lone-requires
     mul-surveyed-crowd
     array-copy-out-surveyed-crowd
