@@ -3,18 +3,22 @@
 ghost use mathlib.Core.Path.{_≡_};
 ghost use mathlib.Core.Bool.{false};
 ghost use Rattle.call.specs.Refusal.{first};
+ghost use Rattle.answer.specs.Moved.{Named, movedOutcome};
 ghost use Rattle.answer.specs.Outcome.{outcome};
 ghost use Rattle.cashier_spec.specs.Buy.{buyConditions, buyEffect};
 ghost use Rattle.table.specs.Broken.{broken};
 use crate::purse::purse_at;
 use crate::purse::with_purse_at;
 use answer::conditions::guest_number;
-use answer::outcome::Outcome;
+use answer::moved::Moved;
+use answer::moved::not_moved;
+use answer::moved::seat_moved;
 use call::At;
 use call::refusal::asked;
 use money::most_money::past_most_money;
 use money::sums::table_sums;
 use state::round::is_dealt;
+use table::Seat;
 use table::Table;
 
 // The number of a buy: what every call of a guest asks first, then the rest of its list.
@@ -34,16 +38,13 @@ fn buy_number(t: Table, at: At, n: u64) -> u8
     )
 }
 
-pub fn buy(t: Table, at: At, n: u64) -> Outcome
-    requires { ⌜ broken t ≡ false ⌝ }
-    ensures { λ r. ⌜ r ≡ outcome (buyConditions t (at .seat) (at .position) n) (buyEffect t (at .seat) (at .position) n) t ⌝ }
+pub fn buy(t: Table, s: Seat, at: At, n: u64) -> Moved
+    requires { ⌜ (broken t ≡ false) × Named t (at .seat) s ⌝ }
+    ensures { λ r. ⌜ movedOutcome t (at .seat) r ≡ outcome (buyConditions t (at .seat) (at .position) n) (buyEffect t (at .seat) (at .position) n) t ⌝ }
 {
     let number = buy_number(t, at, n);
     if number != 0 {
-        return Outcome { number, table: t };
+        return not_moved(number, s);
     }
-    Outcome {
-        number,
-        table: with_purse_at(t, at, purse_at(t, at) + n),
-    }
+    seat_moved(t, with_purse_at(s, at, purse_at(s, at) + n))
 }

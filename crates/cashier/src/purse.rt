@@ -1,34 +1,29 @@
-// A guest's purse, read and replaced, for the calls that move money between it and the cashier: buy and cash. An accepted call's seat is one of the
-// nine, its position one of the three.
+// A guest's purse, read and replaced in its seat, for the calls that move money between it and the cashier: buy and cash. An accepted call's position is one of
+// the three.
 ghost use mathlib.Core.Path.{_≡_};
 ghost use Prim.Native.Nat.{_<_};
-ghost use Rattle.table.specs.Seat.{purse as purseOf};
-ghost use Rattle.table.specs.Table.{guestOf, withPurseAt};
+ghost use Rattle.table.specs.Guest.{withPurse};
+ghost use Rattle.table.specs.Seat.{purse as purseOf, guestAt, withGuest};
 use call::At;
 use state::seat::guest_money;
-use state::seat::seat_at;
 use state::seat::with_guest;
-use state::seat::with_seat;
-use table::Table;
+use table::Seat;
 
 // What is in the guest's purse.
-pub(crate) fn purse_at(t: Table, at: At) -> u64
-    requires { ⌜ (at .seat < 9) × (at .position < 3) ⌝ }
-    ensures { λ r. ⌜ r ≡ purseOf (guestOf t (at .seat) (at .position)) ⌝ }
+pub(crate) fn purse_at(s: Seat, at: At) -> u64
+    requires { ⌜ at .position < 3 ⌝ }
+    ensures { λ r. ⌜ r ≡ purseOf (guestAt s (at .position)) ⌝ }
 {
-    let s = seat_at(t, at.seat as usize);
     let money = guest_money(s, at.position);
     money.purse
 }
 
-// The table with another purse of the guest.
-pub(crate) fn with_purse_at(t: Table, at: At, purse: u64) -> Table
-    requires { ⌜ (at .seat < 9) × (at .position < 3) ⌝ }
-    ensures { λ r. ⌜ r ≡ withPurseAt t (at .seat) (at .position) purse ⌝ }
+// The seat with another purse of the guest.
+pub(crate) fn with_purse_at(s: Seat, at: At, purse: u64) -> Seat
+    requires { ⌜ at .position < 3 ⌝ }
+    ensures { λ r. ⌜ r ≡ withGuest s (at .position) (withPurse (guestAt s (at .position) .money) purse) ⌝ }
 {
-    let j = at.seat as usize;
-    let s = seat_at(t, j);
     let mut money = guest_money(s, at.position);
     money.purse = purse;
-    with_seat(t, j, with_guest(s, at.position, money))
+    with_guest(s, at.position, money)
 }

@@ -4,22 +4,24 @@ ghost use mathlib.Core.Path.{_≡_};
 ghost use mathlib.Core.Bool.{false};
 ghost use Prim.Native.Nat.{_≤_};
 ghost use Rattle.call.specs.Refusal.{first};
+ghost use Rattle.answer.specs.Moved.{Named, movedOutcome};
 ghost use Rattle.answer.specs.Outcome.{outcome};
 ghost use Rattle.payment.specs.Bets.{side as sideOf};
 ghost use Rattle.table.specs.Guest.{siding};
 ghost use Rattle.table.specs.Broken.{broken};
 ghost use Rattle.cashier_spec.specs.Side.{isSideKind, sideConditions, sideEffect};
 use answer::conditions::seat_number;
-use answer::outcome::Outcome;
+use answer::moved::Moved;
+use answer::moved::not_moved;
+use answer::moved::seat_moved;
 use call::At;
 use call::refusal::asked;
 use options::permitted::side_permitted;
 use state::round::is_dealt;
 use state::seat::guest_money;
-use state::seat::seat_at;
 use state::seat::with_guest;
-use state::seat::with_seat;
 use table::Money;
+use table::Seat;
 use table::Table;
 
 // 1 any pair, 2 sevens, 3 more than 13, 4 less than 13.
@@ -57,8 +59,8 @@ fn sided(m: Money, kind: u8, n: u64) -> Money
 }
 
 // The number of a side stake: what every call of a seat asks first, 21 and 22, then the rest of its list.
-fn side_number(t: Table, at: At, kind: u8, n: u64) -> u8
-    requires { ⌜ broken t ≡ false ⌝ }
+fn side_number(t: Table, s: Seat, at: At, kind: u8, n: u64) -> u8
+    requires { ⌜ (broken t ≡ false) × Named t (at .seat) s ⌝ }
     ensures { λ r. ⌜ r ≡ first (sideConditions t (at .seat) (at .position) kind n) ⌝ }
 {
     let o = t.options;
@@ -70,7 +72,6 @@ fn side_number(t: Table, at: At, kind: u8, n: u64) -> u8
     if named != 0 {
         return named;
     }
-    let s = seat_at(t, at.seat as usize);
     let money = guest_money(s, at.position);
     let sides = money.sides;
     asked(
@@ -84,19 +85,14 @@ fn side_number(t: Table, at: At, kind: u8, n: u64) -> u8
     )
 }
 
-pub fn side(t: Table, at: At, kind: u8, n: u64) -> Outcome
-    requires { ⌜ broken t ≡ false ⌝ }
-    ensures { λ r. ⌜ r ≡ outcome (sideConditions t (at .seat) (at .position) kind n) (sideEffect t (at .seat) (at .position) kind n) t ⌝ }
+pub fn side(t: Table, s: Seat, at: At, kind: u8, n: u64) -> Moved
+    requires { ⌜ (broken t ≡ false) × Named t (at .seat) s ⌝ }
+    ensures { λ r. ⌜ movedOutcome t (at .seat) r ≡ outcome (sideConditions t (at .seat) (at .position) kind n) (sideEffect t (at .seat) (at .position) kind n) t ⌝ }
 {
-    let number = side_number(t, at, kind, n);
+    let number = side_number(t, s, at, kind, n);
     if number != 0 {
-        return Outcome { number, table: t };
+        return not_moved(number, s);
     }
-    let j = at.seat as usize;
-    let s = seat_at(t, j);
     let money = sided(guest_money(s, at.position), kind, n);
-    Outcome {
-        number,
-        table: with_seat(t, j, with_guest(s, at.position, money)),
-    }
+    seat_moved(t, with_guest(s, at.position, money))
 }

@@ -5,21 +5,23 @@ ghost use mathlib.Core.Bool.{false, not, _&&_};
 ghost use Prim.Native.Nat.{_≤_};
 ghost use lib.Dec.{ltb, eqb};
 ghost use Rattle.call.specs.Refusal.{first};
+ghost use Rattle.answer.specs.Moved.{Named, movedOutcome};
 ghost use Rattle.answer.specs.Outcome.{outcome};
 ghost use Rattle.table.specs.Guest.{staking};
 ghost use Rattle.cashier_spec.specs.Stake.{stakeConditions, stakeEffect};
 ghost use Rattle.table.specs.Broken.{broken};
 use answer::conditions::guest_number;
-use answer::outcome::Outcome;
+use answer::moved::Moved;
+use answer::moved::not_moved;
+use answer::moved::seat_moved;
 use call::At;
 use call::refusal::asked;
 use options::permitted::stake_permitted;
 use state::round::is_dealt;
 use state::seat::guest_money;
-use state::seat::seat_at;
 use state::seat::with_guest;
-use state::seat::with_seat;
 use table::Money;
+use table::Seat;
 use table::Table;
 
 // A guest's money with n of the purse staked.
@@ -40,9 +42,9 @@ fn before_seated(position: u8, seated: Money) -> bool
     position != 0 && !(0 < seated.stake)
 }
 
-// The number of a stake: what every call of a guest asks first, then the rest of its list. A seat is taken only where there is one.
-fn stake_number(t: Table, at: At, n: u64) -> u8
-    requires { ⌜ broken t ≡ false ⌝ }
+// The number of a stake: what every call of a guest asks first, then the rest of its list. It is handed the seat, where there is one.
+fn stake_number(t: Table, s: Seat, at: At, n: u64) -> u8
+    requires { ⌜ (broken t ≡ false) × Named t (at .seat) s ⌝ }
     ensures { λ r. ⌜ r ≡ first (stakeConditions t (at .seat) (at .position) n) ⌝ }
 {
     let o = t.options;
@@ -50,7 +52,6 @@ fn stake_number(t: Table, at: At, n: u64) -> u8
     if early != 0 {
         return early;
     }
-    let s = seat_at(t, at.seat as usize);
     let seated = s.money;
     let money = guest_money(s, at.position);
     asked(
@@ -68,19 +69,14 @@ fn stake_number(t: Table, at: At, n: u64) -> u8
     )
 }
 
-pub fn stake(t: Table, at: At, n: u64) -> Outcome
-    requires { ⌜ broken t ≡ false ⌝ }
-    ensures { λ r. ⌜ r ≡ outcome (stakeConditions t (at .seat) (at .position) n) (stakeEffect t (at .seat) (at .position) n) t ⌝ }
+pub fn stake(t: Table, s: Seat, at: At, n: u64) -> Moved
+    requires { ⌜ (broken t ≡ false) × Named t (at .seat) s ⌝ }
+    ensures { λ r. ⌜ movedOutcome t (at .seat) r ≡ outcome (stakeConditions t (at .seat) (at .position) n) (stakeEffect t (at .seat) (at .position) n) t ⌝ }
 {
-    let number = stake_number(t, at, n);
+    let number = stake_number(t, s, at, n);
     if number != 0 {
-        return Outcome { number, table: t };
+        return not_moved(number, s);
     }
-    let j = at.seat as usize;
-    let s = seat_at(t, j);
     let money = staked(guest_money(s, at.position), n);
-    Outcome {
-        number,
-        table: with_seat(t, j, with_guest(s, at.position, money)),
-    }
+    seat_moved(t, with_guest(s, at.position, money))
 }

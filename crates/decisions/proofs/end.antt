@@ -1,2 +1,2 @@
--- The law of the answer by the number.
+-- The laws of the answer by the number.
 pub mod Laws

@@ -4,19 +4,21 @@ ghost use mathlib.Core.Bool.{true, cond};
 ghost use lib.Dec.{eqb};
 ghost use Rattle.rules.specs.Turn.{seatWaits};
 ghost use Rattle.table.specs.Seat.{hands as handsOf};
+ghost use Rattle.table.specs.Table.{up as upOf};
+ghost use Rattle.answer.specs.Moved.{Named, movedOutcome};
 ghost use Rattle.answer.specs.Outcome.{makeOutcome};
 ghost use Rattle.decisions_spec.specs.Turn.{endEffect};
 ghost use Rattle.decisions.specs.Aids.InTurn.{InTurn};
 ghost use Rattle.decisions.specs.Aids.EndedHand.{withEndedHand};
 use crate::turn::waiting_hand;
 use crate::turn::with_place;
-use answer::outcome::Outcome;
+use answer::moved::Moved;
+use answer::moved::not_moved;
+use answer::moved::seat_moved;
 use call::At;
 use options::Options;
 use rules::turn::waiting_place;
 use state::round::up;
-use state::seat::seat_at;
-use state::seat::with_seat;
 use table::Seat;
 use table::Table;
 
@@ -32,28 +34,23 @@ fn with_ended_hand(o: Options, card: u8, s: Seat, code: u8) -> Seat
     with_place(s, p, h)
 }
 
-fn ended(t: Table, at: At, code: u8) -> Table
-    requires { ⌜ InTurn t (at .seat) ⌝ }
-    ensures { λ r. ⌜ r ≡ endEffect code t (at .seat) ⌝ }
+// The same of the table's options and up card.
+fn ended(t: Table, s: Seat, code: u8) -> Seat
+    requires { ⌜ seatWaits (t .options) (upOf t) (handsOf s) ≡ true ⌝ }
+    ensures { λ r. ⌜ r ≡ withEndedHand (t .options) (upOf t) s code ⌝ }
 {
     let o = t.options;
-    let j = at.seat as usize;
-    let s = seat_at(t, j);
     let card = up(t);
-    let next = with_ended_hand(o, card, s, code);
-    with_seat(t, j, next)
+    with_ended_hand(o, card, s, code)
 }
 
-// The table as it was behind a number; behind 0, where the seat's turn has come, the table with that hand ended.
-pub(crate) fn answer(t: Table, at: At, number: u8, code: u8) -> Outcome
-    requires { ⌜ (number ≡ 0 → InTurn t (at .seat)) ⌝ }
-    ensures { λ r. ⌜ r ≡ makeOutcome number (cond (eqb number 0) (endEffect code t (at .seat)) t) ⌝ }
+// Nothing moves behind a number; behind 0, where the seat's turn has come, that hand ends.
+pub(crate) fn answer(t: Table, s: Seat, at: At, number: u8, code: u8) -> Moved
+    requires { ⌜ (number ≡ 0 → InTurn t (at .seat)) × Named t (at .seat) s ⌝ }
+    ensures { λ r. ⌜ movedOutcome t (at .seat) r ≡ makeOutcome number (cond (eqb number 0) (endEffect code t (at .seat)) t) ⌝ }
 {
     if number != 0 {
-        return Outcome { number, table: t };
+        return not_moved(number, s);
     }
-    Outcome {
-        number,
-        table: ended(t, at, code),
-    }
+    seat_moved(t, ended(t, s, code))
 }

@@ -4,13 +4,16 @@ ghost use mathlib.Core.Path.{_≡_};
 ghost use mathlib.Core.Bool.{false};
 ghost use Prim.Native.Nat.{_≤_};
 ghost use Rattle.call.specs.Refusal.{first};
+ghost use Rattle.answer.specs.Moved.{Named, movedOutcome};
 ghost use Rattle.answer.specs.Outcome.{outcome};
 ghost use Rattle.table.specs.Guest.{insuring};
 ghost use Rattle.decisions_spec.specs.Insure.{insureConditions, insureEffect};
 ghost use Rattle.table.specs.Broken.{broken};
 use crate::progress::any_decided;
 use answer::conditions::guest_number;
-use answer::outcome::Outcome;
+use answer::moved::Moved;
+use answer::moved::not_moved;
+use answer::moved::seat_moved;
 use call::At;
 use call::refusal::asked;
 use cards::card::is_ace;
@@ -18,10 +21,9 @@ use options::permitted::insurance_permitted;
 use state::round::is_dealt;
 use state::round::up;
 use state::seat::guest_money;
-use state::seat::seat_at;
 use state::seat::with_guest;
-use state::seat::with_seat;
 use table::Money;
+use table::Seat;
 use table::Table;
 
 // A guest's money with n of the purse laid as insurance.
@@ -37,8 +39,8 @@ fn insured(m: Money, n: u64) -> Money
 
 // Behind the conditions of every call of a guest: 9 insured already, 10 no stake, 12 a decision was taken, 13 no ace up, 14 nothing or not the option's
 // part of the stake, 15 not in the purse.
-fn insure_number(t: Table, at: At, n: u64) -> u8
-    requires { ⌜ broken t ≡ false ⌝ }
+fn insure_number(t: Table, s: Seat, at: At, n: u64) -> u8
+    requires { ⌜ (broken t ≡ false) × Named t (at .seat) s ⌝ }
     ensures { λ r. ⌜ r ≡ first (insureConditions t (at .seat) (at .position) n) ⌝ }
 {
     let o = t.options;
@@ -46,7 +48,6 @@ fn insure_number(t: Table, at: At, n: u64) -> u8
     if early != 0 {
         return early;
     }
-    let s = seat_at(t, at.seat as usize);
     let money = guest_money(s, at.position);
     let permitted = insurance_permitted(o, money.stake, n);
     asked(
@@ -72,19 +73,14 @@ fn insure_number(t: Table, at: At, n: u64) -> u8
     )
 }
 
-pub fn insure(t: Table, at: At, n: u64) -> Outcome
-    requires { ⌜ broken t ≡ false ⌝ }
-    ensures { λ r. ⌜ r ≡ outcome (insureConditions t (at .seat) (at .position) n) (insureEffect t (at .seat) (at .position) n) t ⌝ }
+pub fn insure(t: Table, s: Seat, at: At, n: u64) -> Moved
+    requires { ⌜ (broken t ≡ false) × Named t (at .seat) s ⌝ }
+    ensures { λ r. ⌜ movedOutcome t (at .seat) r ≡ outcome (insureConditions t (at .seat) (at .position) n) (insureEffect t (at .seat) (at .position) n) t ⌝ }
 {
-    let number = insure_number(t, at, n);
+    let number = insure_number(t, s, at, n);
     if number != 0 {
-        return Outcome { number, table: t };
+        return not_moved(number, s);
     }
-    let j = at.seat as usize;
-    let s = seat_at(t, j);
     let money = insured(guest_money(s, at.position), n);
-    Outcome {
-        number,
-        table: with_seat(t, j, with_guest(s, at.position, money)),
-    }
+    seat_moved(t, with_guest(s, at.position, money))
 }

@@ -2,9 +2,9 @@
 // (document 01, "The seventeen calls", the guest; article 18).
 ghost use mathlib.Core.Path.{_≡_};
 ghost use mathlib.Core.Bool.{false};
-ghost use Prim.Native.Nat.{_<_};
 ghost use Rattle.call.specs.Refusal.{first};
 ghost use Rattle.rules.specs.SeatHand.{bySurrender};
+ghost use Rattle.answer.specs.Moved.{Named, movedOutcome};
 ghost use Rattle.answer.specs.Outcome.{outcome};
 ghost use Rattle.decisions_spec.specs.Place.{placeOf, withPlace, endedBy};
 ghost use Rattle.decisions_spec.specs.Surrender.{surrenderConditions, surrenderEffect};
@@ -12,7 +12,9 @@ ghost use Rattle.table.specs.Broken.{broken};
 use crate::progress::any_drew;
 use crate::turn::with_place;
 use answer::conditions::guest_number;
-use answer::outcome::Outcome;
+use answer::moved::Moved;
+use answer::moved::not_moved;
+use answer::moved::seat_moved;
 use call::At;
 use call::refusal::asked;
 use cards::card::is_ace;
@@ -22,14 +24,12 @@ use state::round::is_dealt;
 use state::round::up;
 use state::seat::decider;
 use state::seat::guest_money;
-use state::seat::seat_at;
-use state::seat::with_seat;
 use table::Seat;
 use table::Table;
 
 // Behind the conditions of every call of a guest: 10 no stake, 23 not the deciding guest, 12 somebody has drawn, 12 the seat's hand does not wait, 13 an ace up.
-fn surrender_number(t: Table, at: At) -> u8
-    requires { ⌜ broken t ≡ false ⌝ }
+fn surrender_number(t: Table, s: Seat, at: At) -> u8
+    requires { ⌜ (broken t ≡ false) × Named t (at .seat) s ⌝ }
     ensures { λ r. ⌜ r ≡ first (surrenderConditions t (at .seat) (at .position)) ⌝ }
 {
     let o = t.options;
@@ -38,7 +38,6 @@ fn surrender_number(t: Table, at: At) -> u8
         return early;
     }
     let card = up(t);
-    let s = seat_at(t, at.seat as usize);
     let hands = s.hands;
     let money = guest_money(s, at.position);
     asked(
@@ -66,26 +65,13 @@ fn surrendered_seat(s: Seat) -> Seat
     with_place(s, 0, h)
 }
 
-fn surrendered(t: Table, at: At) -> Table
-    requires { ⌜ at .seat < 9 ⌝ }
-    ensures { λ r. ⌜ r ≡ surrenderEffect t (at .seat) ⌝ }
+pub fn surrender(t: Table, s: Seat, at: At) -> Moved
+    requires { ⌜ (broken t ≡ false) × Named t (at .seat) s ⌝ }
+    ensures { λ r. ⌜ movedOutcome t (at .seat) r ≡ outcome (surrenderConditions t (at .seat) (at .position)) (surrenderEffect t (at .seat)) t ⌝ }
 {
-    let j = at.seat as usize;
-    let s = seat_at(t, j);
-    let next = surrendered_seat(s);
-    with_seat(t, j, next)
-}
-
-pub fn surrender(t: Table, at: At) -> Outcome
-    requires { ⌜ broken t ≡ false ⌝ }
-    ensures { λ r. ⌜ r ≡ outcome (surrenderConditions t (at .seat) (at .position)) (surrenderEffect t (at .seat)) t ⌝ }
-{
-    let number = surrender_number(t, at);
+    let number = surrender_number(t, s, at);
     if number != 0 {
-        return Outcome { number, table: t };
+        return not_moved(number, s);
     }
-    Outcome {
-        number,
-        table: surrendered(t, at),
-    }
+    seat_moved(t, surrendered_seat(s))
 }

@@ -3,6 +3,7 @@
 ghost use mathlib.Core.Path.{_≡_};
 ghost use mathlib.Core.Bool.{true, false};
 ghost use Rattle.call.specs.Refusal.{first};
+ghost use Rattle.answer.specs.Moved.{Named};
 ghost use Rattle.decisions_spec.specs.Place.{placeOf, withPlace};
 ghost use Rattle.decisions_spec.specs.Turn.{turnConditions};
 ghost use Rattle.table.specs.Seat.{hands as handsOf};
@@ -26,14 +27,13 @@ use rules::turn::waiting_place;
 use state::round::is_dealt;
 use state::seat::decider;
 use state::seat::guest_money;
-use state::seat::seat_at;
 use state::turn::seat_in_turn;
 use table::Seat;
 use table::Table;
 
-// Behind the conditions of every call of a guest: 10 no stake, 11 not that seat's turn, 23 not the deciding guest.
-pub fn turn_number(t: Table, at: At) -> u8
-    requires { ⌜ broken t ≡ false ⌝ }
+// It is handed the seat, where there is one. Behind the conditions of every call of a guest: 10 no stake, 11 not that seat's turn, 23 not the deciding guest.
+pub fn turn_number(t: Table, s: Seat, at: At) -> u8
+    requires { ⌜ (broken t ≡ false) × Named t (at .seat) s ⌝ }
     ensures { λ r. ⌜ r ≡ first (turnConditions t (at .seat) (at .position)) ⌝ }
 {
     let o = t.options;
@@ -42,7 +42,6 @@ pub fn turn_number(t: Table, at: At) -> u8
         return early;
     }
     let j = at.seat as usize;
-    let s = seat_at(t, j);
     let money = guest_money(s, at.position);
     asked(
         10,

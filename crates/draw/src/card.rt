@@ -7,12 +7,16 @@ ghost use lib.Dec.{ltb};
 ghost use Rattle.rules.specs.Turn.{seatWaits, waitingPlace};
 ghost use Rattle.table.specs.Money.{mostMoney};
 ghost use Rattle.table.specs.Seat.{hands as handsOf, overGuests, stake};
+ghost use Rattle.table.specs.Table.{seatAt};
+ghost use Rattle.answer.specs.Moved.{movedTable};
 ghost use Rattle.decisions_spec.specs.Place.{placeOf};
 ghost use Rattle.decisions_spec.specs.Card.{purseShort, cardMoney, cardEffect};
+ghost use Rattle.decisions_spec.specs.Turn.{waitingPlaceOf};
 ghost use Rattle.payment.specs.Prize.{prize as prizeOf};
 ghost use Rattle.rules.specs.SeatHand.{playedOf};
 ghost use Rattle.draw.specs.Aids.Grown.{grownBy, grownSeat};
 ghost use Rattle.draw.specs.Aids.Drawable.{Affords, AllAfford, onePrizeEach, Drawable};
+use answer::moved::Moved;
 use call::At;
 use cards::hand::with_card;
 use decisions::turn::waiting_hand;
@@ -22,11 +26,8 @@ use payment::prize::prize;
 use rules::seat_hand::SeatHand;
 use rules::turn::waiting_place;
 use shoe::card_ahead;
-use shoe::with_drawn;
 use state::round::up;
 use state::seat::guest_money;
-use state::seat::seat_at;
-use state::seat::with_seat;
 use table::Money;
 use table::Seat;
 use table::Table;
@@ -100,22 +101,24 @@ fn grown_seat(o: Options, card: u8, s: Seat, h: SeatHand, times: u64) -> Seat
 }
 
 // Each guest of the seat lays so many more stakes, its hand takes the next card and has this code, and the prizes of that hand go from tray to purses.
-pub(crate) fn with_next_card(t: Table, at: At, times: u64, code: u8) -> Table
-    requires { ⌜ Drawable t (at .seat) times ⌝ }
-    ensures { λ r. ⌜ r ≡ cardEffect times code t (at .seat) ⌝ }
+pub(crate) fn with_next_card(t: Table, s: Seat, at: At, times: u64, code: u8) -> Moved
+    requires { ⌜ (Drawable t (at .seat) times) × (s ≡ seatAt t (at .seat)) ⌝ }
+    ensures { λ r. ⌜ (r .number ≡ 0) × (movedTable t (at .seat) r ≡ cardEffect times code t (at .seat)) × (r .hand ≡ waitingPlaceOf t (at .seat)) ⌝ }
 {
     let o = t.options;
     let shoe = t.shoe;
     let order = shoe.order;
-    let j = at.seat as usize;
+    let hands = s.hands;
     let card = up(t);
-    let s = seat_at(t, j);
+    let hand = waiting_place(o, card, hands);
     let h = grown(o, card, s, card_ahead(&order[..], shoe.drawn, 0), code);
     let won = all_won(o, s, h);
     let seat = grown_seat(o, card, s, h, times);
-    let rest = with_drawn(shoe, 1);
-    let mut next = with_seat(t, j, seat);
-    next.tray = t.tray - won;
-    next.shoe = rest;
-    next
+    Moved {
+        number: 0,
+        tray: t.tray - won,
+        seat,
+        drawn: shoe.drawn + 1,
+        hand,
+    }
 }

@@ -6,12 +6,16 @@ ghost use Prim.Native.Nat.{_<_, _≤_};
 ghost use lib.ListN.{getD};
 ghost use Rattle.cards.specs.Hand.{cardsOf};
 ghost use Rattle.call.specs.Refusal.{first as firstOf};
+ghost use Rattle.table.specs.Table.{seatAt};
+ghost use Rattle.answer.specs.Moved.{Named, movedTable, movedOutcome};
 ghost use Rattle.answer.specs.Outcome.{outcome};
 ghost use Rattle.decisions_spec.specs.Split.{splitConditions, splitEffect, splitHand, splitPlaces, splitFirst, stakedAgain};
 ghost use Rattle.draw.specs.Aids.Splits.{splitSeat, Pays, Splits};
+ghost use Rattle.decisions_spec.specs.Turn.{waitingPlaceOf};
 ghost use Rattle.table.specs.Broken.{broken};
 use crate::card::purse_short;
-use answer::outcome::Outcome;
+use answer::moved::Moved;
+use answer::moved::not_moved;
 use call::At;
 use call::refusal::asked;
 use cards::card::is_ace;
@@ -30,11 +34,8 @@ use rules::seat_hand::SeatHands;
 use rules::seat_hand::used;
 use rules::turn::waiting_place;
 use shoe::card_ahead;
-use shoe::with_drawn;
 use state::round::cards_left;
 use state::round::up;
-use state::seat::seat_at;
-use state::seat::with_seat;
 use table::Money;
 use table::Seat;
 use table::Table;
@@ -141,36 +142,39 @@ fn split_seat(o: Options, card: u8, s: Seat, first: u8, second: u8) -> Seat
     next
 }
 
-fn split_table(t: Table, at: At) -> Table
-    requires { ⌜ Splits t (at .seat) ⌝ }
-    ensures { λ r. ⌜ r ≡ splitEffect t (at .seat) ⌝ }
+// What the split of that seat moves: two cards are drawn, the first to the parent.
+fn split_moved(t: Table, s: Seat, at: At) -> Moved
+    requires { ⌜ (Splits t (at .seat)) × (s ≡ seatAt t (at .seat)) ⌝ }
+    ensures { λ r. ⌜ (r .number ≡ 0) × (movedTable t (at .seat) r ≡ splitEffect t (at .seat)) × (r .hand ≡ waitingPlaceOf t (at .seat)) ⌝ }
 {
     let o = t.options;
-    let j = at.seat as usize;
-    let s = seat_at(t, j);
     let card = up(t);
     let shoe = t.shoe;
     let order = shoe.order;
+    let hands = s.hands;
+    let hand = waiting_place(o, card, hands);
     let first = card_ahead(&order[..], shoe.drawn, 0);
     let second = card_ahead(&order[..], shoe.drawn, 1);
-    let next = split_seat(o, card, s, first, second);
-    let rest = with_drawn(shoe, 2);
-    let mut after = with_seat(t, j, next);
-    after.shoe = rest;
-    after
+    let seat = split_seat(o, card, s, first, second);
+    Moved {
+        number: 0,
+        tray: t.tray,
+        seat,
+        drawn: shoe.drawn + 2,
+        hand,
+    }
 }
 
 // Behind the conditions in turn: 19 no pair, 20 the seat's hands are used up, 15 a guest's purse is below the stake, 18 fewer than two cards are left.
-fn split_number(t: Table, at: At) -> u8
-    requires { ⌜ broken t ≡ false ⌝ }
+fn split_number(t: Table, s: Seat, at: At) -> u8
+    requires { ⌜ (broken t ≡ false) × Named t (at .seat) s ⌝ }
     ensures { λ r. ⌜ r ≡ firstOf (splitConditions t (at .seat) (at .position)) ⌝ }
 {
-    let number = turn_number(t, at);
+    let number = turn_number(t, s, at);
     if number != 0 {
         return number;
     }
     let o = t.options;
-    let s = seat_at(t, at.seat as usize);
     let hands = s.hands;
     let h = waiting_hand(o, up(t), s);
     let pair = h.hand;
@@ -186,16 +190,14 @@ fn split_number(t: Table, at: At) -> u8
     )
 }
 
-pub fn split(t: Table, at: At) -> Outcome
-    requires { ⌜ broken t ≡ false ⌝ }
-    ensures { λ r. ⌜ r ≡ outcome (splitConditions t (at .seat) (at .position)) (splitEffect t (at .seat)) t ⌝ }
+pub fn split(t: Table, s: Seat, at: At) -> Moved
+    requires { ⌜ (broken t ≡ false) × Named t (at .seat) s ⌝ }
+    ensures same { λ r. ⌜ movedOutcome t (at .seat) r ≡ outcome (splitConditions t (at .seat) (at .position)) (splitEffect t (at .seat)) t ⌝ }
+    ensures shown { λ r. ⌜ (r .number ≡ 0 → (at .seat < 9) × (r .hand ≡ waitingPlaceOf t (at .seat))) ⌝ }
 {
-    let number = split_number(t, at);
+    let number = split_number(t, s, at);
     if number != 0 {
-        return Outcome { number, table: t };
+        return not_moved(number, s);
     }
-    Outcome {
-        number,
-        table: split_table(t, at),
-    }
+    split_moved(t, s, at)
 }

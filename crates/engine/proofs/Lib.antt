@@ -3,3 +3,6 @@ pub mod Session
 pub mod FullCover
 pub mod BrokenTable
 pub mod LowestFirst
+-- What step_checked and its parts share.
+pub mod ShownDeal
+pub mod Moved

@@ -5,3 +5,4 @@ pub mod Run
 pub mod LowestFirst
 pub mod Session
 pub mod FullCover
+pub mod Aids

@@ -1,7 +1,7 @@
 -- What an accepted draw or double gives its effect, and that effect from what the code has read.
 use mathlib.Core.Path.{_≡_, refl}
 use mathlib.Core.List.{List, [], _∷_, map}
-use Prim.Native.Nat.{ℕ, _-_, _*_, _≤_, _<_}
+use Prim.Native.Nat.{ℕ, _+_, _-_, _*_, _≤_, _<_}
 use native.Mathlib.Omega.{arith}
 use lib.ListN.{length, getD, set}
 use Rattle.lists.proofs.Sums.{sum-has}
@@ -13,17 +13,17 @@ use Rattle.payment.specs.Prize.{prize, mostPrize}
 use Rattle.payment.proofs.Bounds.{prize-most}
 use Rattle.table.specs.declared.Money.{Money}
 use Rattle.table.specs.declared.Seat.{Seat}
-use Rattle.table.specs.declared.Shoe.{Shoe}
 use Rattle.table.specs.declared.Table.{Table}
 use Rattle.table.specs.Guest.{missingMoney}
 use Rattle.table.specs.Seat.{makeSeat, missingSeat, guestAt, overGuests, purse, stake, hands}
-use Rattle.table.specs.Shoe.{withDrawn}
-use Rattle.table.specs.Table.{makeTable, withSeat, seatAt, guestOf, up, cardsLeft}
+use Rattle.table.specs.Table.{seatAt, guestOf, up, cardsLeft}
 use Rattle.table.proofs.Facts.{unbroken, decks-416}
 use Rattle.table.proofs.Guests.{over-has}
 use Rattle.table.proofs.Cover.{tray-covers}
+use Rattle.answer.specs.Moved.{makeMoved, movedTable}
 use Rattle.decisions_spec.specs.Place.{placeOf}
 use Rattle.decisions_spec.specs.Card.{cardAhead, cardMoney, cardEffect}
+use Rattle.decisions_spec.specs.Turn.{waitingPlaceOf}
 use Rattle.decisions_spec.proofs.Turn.{TurnAccepted}
 use Rattle.decisions.proofs.turn.Laws.{in-turn}
 use Rattle.draw.specs.Aids.Grown.{grownBy, grownSeat}
@@ -71,13 +71,17 @@ module _ (t : Table) (j times : ℕ) where
         card-left = omega (arith, decks-416 t sound);
       }
 
-  pub next-is : (code : ℕ) {card ahead won : ℕ} {s seat : Seat} {h : SeatHand} {rest : Shoe} {u : Table} → u ≡ withSeat t j seat → rest ≡ withDrawn (t .shoe) 1
+  pub next-is : (code hand : ℕ) {card ahead won : ℕ} {s seat : Seat} {h : SeatHand}
       → seat ≡ grownSeat (t .options) card s h times
       → won ≡ overGuests (λ g. prize (t .options) (stake g) (playedOf h)) s
       → h ≡ grownBy (placeOf s (waitingPlace (t .options) card (hands s))) ahead code
       → ahead ≡ cardAhead t 0
       → card ≡ up t
       → s ≡ seatAt t j
-      → makeTable (u .options) (t .tray - won) (u .seats) (u .bank) rest ≡ cardEffect times code t j
+      → movedTable t j (makeMoved 0 (t .tray - won) seat (t .shoe .drawn + 1) hand) ≡ cardEffect times code t j
   unfolding cardEffect
-  next-is code stored shoe grows pays grew next upped same = rw (stored, shoe, grows, pays, grew, next, upped, same)
+  next-is code hand grows pays grew next upped same = rw (grows, pays, grew, next, upped, same)
+
+-- the place of the hand, by the seat and the up card as the code has read them
+pub place-is : (t : Table) (j : ℕ) {hand card : ℕ} {s : Seat} → hand ≡ waitingPlace (t .options) card (hands s) → card ≡ up t → s ≡ seatAt t j → hand ≡ waitingPlaceOf t j
+place-is t j waits upped same = rw (waits, upped, same)

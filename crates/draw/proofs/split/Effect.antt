@@ -7,11 +7,10 @@ use Rattle.cards.specs.Hand.{cardsOf}
 use Rattle.rules.specs.declared.seat_hand.SeatHand.{SeatHand}
 use Rattle.table.specs.declared.Money.{Money}
 use Rattle.table.specs.declared.Seat.{Seat}
-use Rattle.table.specs.declared.Shoe.{Shoe}
 use Rattle.table.specs.declared.Table.{Table}
 use Rattle.table.specs.Seat.{makeSeat}
-use Rattle.table.specs.Shoe.{withDrawn}
-use Rattle.table.specs.Table.{seatAt, up, withSeat, withShoe}
+use Rattle.table.specs.Table.{seatAt, up}
+use Rattle.answer.specs.Moved.{makeMoved, movedTable}
 use Rattle.decisions_spec.specs.Card.{cardAhead}
 use Rattle.decisions_spec.specs.Split.{splitHand, splitPlaces, splitFirst, stakedAgain, splitEffect}
 use Rattle.draw.specs.Aids.Splits.{twoFor, splitSeat}
@@ -33,15 +32,13 @@ unfolding twoFor
 same-two s first second is-seated are-others keeps puts is-parent keeps-first is-new keeps-second same-place same-hand =
     rw (is-seated, are-others, keeps, puts, is-parent, keeps-first, is-new, keeps-second, same-place, same-hand)
 
--- the table: that seat, with the seat and the up card as the code has read them, and the shoe with two cards drawn
-pub same-effect : (t : Table) (j : ℕ) {card first second : ℕ} {s next : Seat} {u : Table} {rest : Shoe}
-    → u ≡ withSeat t j next
-    → rest ≡ withDrawn (t .shoe) 2
+-- what it moves: that seat, with the seat and the up card as the code has read them, and two cards drawn
+pub same-effect : (t : Table) (j hand : ℕ) {card first second : ℕ} {s next : Seat}
     → next ≡ splitSeat (t .options) card s first second
     → first ≡ cardAhead t 0
     → second ≡ cardAhead t 1
     → card ≡ up t
     → s ≡ seatAt t j
-    → withShoe u rest ≡ splitEffect t j
+    → movedTable t j (makeMoved 0 (t .tray) next (t .shoe .drawn + 2) hand) ≡ splitEffect t j
 unfolding splitEffect twoFor
-same-effect t j stored shoe splits is-first is-second upped same = rw (stored, shoe, splits, is-first, is-second, upped, same)
+same-effect t j hand splits is-first is-second upped same = rw (splits, is-first, is-second, upped, same)

@@ -1,16 +1,13 @@
--- The first place that passes is at most the length; and the scores of the staked seats, one seat more at a time.
+-- The scores of the staked seats, one seat more at a time.
 use mathlib.Core.Path.{_≡_, refl, _∙_}
 use mathlib.Core.Bool.{Bool, true, false}
 use mathlib.Core.List.{List, [], _∷_, _++_, map, append-nil, map-append}
 use Prim.Native.Nat.{ℕ, _+_, _≤_, _<_}
 use native.Mathlib.Numerals.{add-one}
 use native.Mathlib.Omega.{arith}
-use borrow.Author.Tests.{ltb-true}
-use lib.Dec.{ltb}
 use lib.ListN.{length, take, getD, length-map, length-append}
 use lib.Seq.{take-suc}
-use Rattle.lists.specs.Tests.{anyOf, those, firstPlace}
-use Rattle.lists.proofs.Tests.{first-none, first-inside}
+use Rattle.lists.specs.Tests.{those}
 use Rattle.lists.proofs.Numbered.{those-append}
 use Rattle.cards.specs.declared.score.HandScore.{HandScore}
 use Rattle.table.specs.declared.Seat.{Seat}
@@ -19,13 +16,6 @@ use Rattle.answer.specs.declared.scores.Scores.{Scores}
 use Rattle.answer.specs.Scores.{withScore}
 use Rattle.answer.proofs.scores.Laws.{scoresAt, score-more}
 use Rattle.engine.specs.Scores.{placeScore}
-
-pub first-most : {A : Type 0} (f : A → Bool) (xs : List A) → firstPlace f xs ≤ length xs
-first-most f xs = go (anyOf f xs) (first-inside f xs) (first-none f xs)
-  where
-    go : (b : Bool) → ltb (firstPlace f xs) (length xs) ≡ b → (b ≡ false → firstPlace f xs ≡ length xs) → firstPlace f xs ≤ length xs
-    go true e none = omega (arith, ltb-true (firstPlace f xs) (length xs) e)
-    go false e none = omega (arith, none refl)
 
 -- the staked ones among the first i seats, and the scores of their first hands
 abbrev pub stakedTo : List Seat → ℕ → List Seat

@@ -1,8 +1,9 @@
--- The number decides: the table as it was, or the effect; an accepted side stake's seat is one of the nine, its position one of the three, its kind
+-- The number decides: nothing moves, or the effect; an accepted side stake's seat is one of the nine, its position one of the three, its kind
 -- one of the four, and its purse holds it.
-use mathlib.Core.Path.{sym, _∙_}
+use mathlib.Core.Path.{_≡_, refl, sym, _∙_}
 use borrow.Author.Needs.{needs}
-use Rattle.answer.proofs.outcome.Laws.{refused, accepted}
+use Rattle.table.specs.Table.{seatAt}
+use Rattle.answer.proofs.moved.Laws.{moved-refused, seat-accepted}
 use Rattle.cashier_spec.specs.Side.{sideConditions, sideEffect}
 use Rattle.cashier_spec.proofs.Side.{SideAccepted, side-accepted}
 use Rattle.cashier.proofs.side.side.Statement.{statement}
@@ -17,51 +18,51 @@ asked c =
 side-number-requires : tie.Need-side-number-requires
 side-number-requires c κs = search needs
 
+not-moved-requires : tie.Need-not-moved-requires
+not-moved-requires c κs = search needs
+
 returns : tie.Need-returns
 returns c =
-    let call = c .before .before .args in
+    let call = c .before .before .before .args in
     let at = call .at in
-    refused (sideConditions (call .t) (at .seat) (at .position) (call .kind) (call .n)) (sideEffect (call .t) (at .seat) (at .position) (call .kind) (call .n)) (call .t) _ (c .before .side-number .ensures) (c .if1 .taken)
-
-cast-j : tie.Need-cast-j
-cast-j c = search needs
-
-seat-at-requires : tie.Need-seat-at-requires
-seat-at-requires c κs = asked (c .before) .guest .nine
+    moved-refused (sideConditions (call .t) (at .seat) (at .position) (call .kind) (call .n)) (sideEffect (call .t) (at .seat) (at .position) (call .kind) (call .n)) (call .t) (at .seat) _ (c .before .before .side-number .ensures) (c .not-moved .ensures) refl (c .before .if1 .taken)
 
 guest-money-requires : tie.Need-guest-money-requires
-guest-money-requires c κs = asked (c .before .before) .guest .position
+guest-money-requires c κs = asked c .guest .position
+
+-- the seat that it was handed is the table's
+seat : (c : tie.Else1) → c .before .before .args .s ≡ seatAt (c .before .before .args .t) (c .before .before .args .at .seat)
+seat c = c .before .before .pre .1 (asked c .guest .nine)
 
 sided-requires : tie.Need-sided-requires
 sided-requires c κs =
-    let a = asked (c .before .before .before) in
-    (a .least, a .most, rw (c .guest-money .ensures, c .before .seat-at .ensures) (a .enough), a .permitted)
+    let a = asked (c .before) in
+    (a .least, a .most, rw (c .guest-money .ensures, seat (c .before)) (a .enough), a .permitted)
 
 with-guest-requires : tie.Need-with-guest-requires
 with-guest-requires c κs = search needs
 
-with-seat-requires : tie.Need-with-seat-requires
-with-seat-requires c κs = search needs
+seat-moved-requires : tie.Need-seat-moved-requires
+seat-moved-requires c κs = search needs
 
 returns-2 : tie.Need-returns-2
 unfolding sideEffect
 returns-2 c =
-    let passed = c .before .before .before .before .before .before in
+    let passed = c .before .before .before .before in
     let call = passed .before .before .args in
     let at = call .at in
-    accepted (sideConditions (call .t) (at .seat) (at .position) (call .kind) (call .n)) (sideEffect (call .t) (at .seat) (at .position) (call .kind) (call .n)) (call .t) _ _ (passed .before .side-number .ensures) (passed .if1 .left)
-    (simp (c .with-seat .ensures, c .before .with-guest .ensures, c .before .before .sided .ensures, c .before .before .before .guest-money .ensures, c .before .before .before .before .seat-at .ensures))
+    seat-accepted (sideConditions (call .t) (at .seat) (at .position) (call .kind) (call .n)) (sideEffect (call .t) (at .seat) (at .position) (call .kind) (call .n)) (call .t) (at .seat) _ (passed .before .side-number .ensures) (c .seat-moved .ensures) (passed .if1 .left)
+    (simp (c .before .with-guest .ensures, c .before .before .sided .ensures, c .before .before .before .guest-money .ensures, seat passed))
 
 pub side-spec : {M : Type 1} → statement M
 side-spec =
     tie.close
     (tie.spec
     side-number-requires
+    not-moved-requires
     returns
-    cast-j
-    seat-at-requires
     guest-money-requires
     sided-requires
     with-guest-requires
-    with-seat-requires
+    seat-moved-requires
     returns-2)

@@ -17,7 +17,7 @@ use Rattle.cashier.proofs.side.side_number.Tie as tie
 
 -- the number of the conditions of every call of a seat
 early : (c : tie.After-seat-number) → c .seat-number .result ≡ first (seatConditions (betweenRounds (c .before .before .before .args .t)) (c .before .before .before .args .t) (c .before .before .before .args .at .seat))
-early c = seat-asked _ _ 4 _ _ _ (c .seat-number .ensures) (c .before .before .before .pre) (c .before .is-dealt .ensures)
+early c = seat-asked _ _ 4 _ _ _ (c .seat-number .ensures) (c .before .before .before .pre .0) (c .before .is-dealt .ensures)
 
 -- then that of what names the side stake, its kind and its position
 abbrev naming : ℕ → ℕ → List Condition
@@ -61,19 +61,10 @@ returns-2 c =
     let call = passed .before .before .before .before .args in
     sym (seat-passes _ _ _ _ (early (passed .before)) refl (passed .if1 .left) _ ∙ first-before (naming (call .kind) (call .at .position)) _ _ (sym (named kind)) (c .if2 .taken))
 
-cast-seat-at : tie.Need-cast-seat-at
-cast-seat-at c = search needs
-
-seat-at-requires : tie.Need-seat-at-requires
-seat-at-requires c κs =
-    let kind = c .before .before in
-    let passed = kind .before .before .before .before in
-    seat-nine _ _ _ _ (early (passed .before)) refl (passed .if1 .left)
-
 guest-money-requires : tie.Need-guest-money-requires
 unfolding allOf
 guest-money-requires c κs =
-    let right = c .before .before in
+    let right = c in
     let call = right .before .before .before .before .before .before .before .before .before .args in
     let (_, (position, _)) = none-hold (naming (call .kind) (call .at .position)) refl (sym (named (right .before)) ∙ right .if2 .left) in
     leb-false 3 _ position
@@ -102,9 +93,9 @@ returns-3 c =
     let permitted = c .before .before .before .before .before in
     let laid = permitted .before .before in
     let money = laid .before .before in
-    let seat = money .before in
-    let right = seat .before .before in
+    let right = money .before in
     let passed = right .before .before .before .before .before in
+    let seat = passed .before .before .before .before .pre .1 (seat-nine _ _ _ _ (early (passed .before)) refl (passed .if1 .left)) in
     let call = passed .before .before .before .before .args in
     (simp (
       c .asked6 .ensures,
@@ -114,7 +105,7 @@ returns-3 c =
       permitted .side-permitted .ensures,
       laid .side-of .ensures,
       money .guest-money .ensures,
-      seat .seat-at .ensures,
+      seat,
     ))
     ∙ sym (both-pass (call .t) (call .at .seat) (call .kind) (call .at .position) _ _ (early (passed .before)) (named (right .before)) (passed .if1 .left) (right .if2 .left) _)
 
@@ -129,8 +120,6 @@ side-number-spec =
     asked-requires
     asked-requires-2
     returns-2
-    cast-seat-at
-    seat-at-requires
     guest-money-requires
     side-of-requires
     side-permitted-requires

@@ -10,7 +10,7 @@ use Rattle.cashier.proofs.stake.stake_number.Tie as tie
 
 -- the number of the conditions of every call of a guest
 early : (c : tie.After-guest-number) → c .guest-number .result ≡ first (guestConditions (betweenRounds (c .before .before .before .args .t)) (c .before .before .before .args .t) (c .before .before .before .args .at .seat) (c .before .before .before .args .at .position))
-early c = guest-asked _ _ _ 4 _ _ _ (c .guest-number .ensures) (c .before .before .before .pre) (c .before .is-dealt .ensures)
+early c = guest-asked _ _ _ 4 _ _ _ (c .guest-number .ensures) (c .before .before .before .pre .0) (c .before .is-dealt .ensures)
 
 is-dealt-requires : tie.Need-is-dealt-requires
 is-dealt-requires c κs = search needs
@@ -22,15 +22,9 @@ returns : tie.Need-returns
 unfolding stakeConditions
 returns c = guest-refuses _ _ _ _ _ (early (c .before)) (c .if1 .taken) _
 
-cast-seat-at : tie.Need-cast-seat-at
-cast-seat-at c = search needs
-
-seat-at-requires : tie.Need-seat-at-requires
-seat-at-requires c κs = guest-nine _ _ _ _ _ (early (c .before .before)) refl (c .before .if1 .left)
-
 guest-money-requires : tie.Need-guest-money-requires
 guest-money-requires c κs =
-    let passed = c .before .before .before in
+    let passed = c .before in
     guest-three _ _ _ _ _ (early (passed .before)) refl (passed .if1 .left)
 
 before-seated-requires : tie.Need-before-seated-requires
@@ -59,8 +53,8 @@ unfolding stakeConditions first
 returns-2 c =
     let permitted = c .before .before .before .before .before .before in
     let money = permitted .before .before .before in
-    let seat = money .before .before in
-    let passed = seat .before .before in
+    let passed = money .before .before in
+    let seat = passed .before .before .before .before .pre .1 (guest-nine _ _ _ _ _ (early (passed .before)) refl (passed .if1 .left)) in
     (simp (
       c .asked5 .ensures,
       c .before .asked4 .ensures,
@@ -70,7 +64,7 @@ returns-2 c =
       permitted .stake-permitted .ensures,
       permitted .before .before-seated .ensures,
       money .guest-money .ensures,
-      seat .seat-at .ensures,
+      seat,
     ))
     ∙ sym (guest-passes _ _ _ _ _ (early (passed .before)) refl (passed .if1 .left) _)
 
@@ -81,8 +75,6 @@ stake-number-spec =
     is-dealt-requires
     guest-number-requires
     returns
-    cast-seat-at
-    seat-at-requires
     guest-money-requires
     before-seated-requires
     stake-permitted-requires

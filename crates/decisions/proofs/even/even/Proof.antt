@@ -10,11 +10,11 @@ use Rattle.decisions.proofs.even.even.Statement.{statement}
 use Rattle.decisions.proofs.even.even.Tie as tie
 
 even-number-requires : tie.Need-even-number-requires
-even-number-requires c κs = search needs
+even-number-requires c κs = c .pre
 
 answer-requires : tie.Need-answer-requires
 unfolding evenConditions allOf
-answer-requires c κs = λ none. in-turn _ _ (turn-accepted _ _ _ _ refl (sym (c .even-number .ensures) ∙ none) .0)
+answer-requires c κs = ((λ none. in-turn _ _ (turn-accepted _ _ _ _ refl (sym (c .even-number .ensures) ∙ none) .0)), c .before .pre .1)
 
 returns : tie.Need-returns
 returns c =

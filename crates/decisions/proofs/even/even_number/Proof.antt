@@ -8,26 +8,20 @@ use Rattle.decisions.proofs.even.even_number.Statement.{statement}
 use Rattle.decisions.proofs.even.even_number.Tie as tie
 
 turn-number-requires : tie.Need-turn-number-requires
-turn-number-requires c κs = search needs
+turn-number-requires c κs = c .pre
 
 returns : tie.Need-returns
 unfolding evenConditions
 returns c = turn-refuses _ _ _ _ (c .before .turn-number .ensures) (c .if1 .taken) _
-
-cast-seat-at : tie.Need-cast-seat-at
-cast-seat-at c = search needs
-
-seat-at-requires : tie.Need-seat-at-requires
-seat-at-requires c κs = turn-comes _ _ _ _ (c .before .before .before .turn-number .ensures) (c .before .before .if1 .left) .nine
 
 up-requires : tie.Need-up-requires
 up-requires c κs = search needs
 
 may-take-requires : tie.Need-may-take-requires
 may-take-requires c κs =
-    let passed = c .before .before .before .before in
+    let passed = c .before .before in
     let turn = turn-comes _ _ _ _ (passed .before .turn-number .ensures) (passed .if1 .left) in
-    read-waits _ _ _ _ turn (c .up .ensures) (c .before .seat-at .ensures)
+    read-waits _ _ _ _ turn (c .up .ensures) (passed .before .before .pre .1 (turn .nine))
 
 asked-requires : tie.Need-asked-requires
 asked-requires c κs = search needs
@@ -35,12 +29,13 @@ asked-requires c κs = search needs
 returns-2 : tie.Need-returns-2
 unfolding evenConditions first
 returns-2 c =
-    let passed = c .before .before .before .before .before .before in
+    let passed = c .before .before .before .before in
+    let turn = turn-comes _ _ _ _ (passed .before .turn-number .ensures) (passed .if1 .left) in
     (simp (
       c .asked .ensures,
       c .before .may-take .ensures,
       c .before .before .up .ensures,
-      c .before .before .before .seat-at .ensures,
+      passed .before .before .pre .1 (turn .nine),
     ))
     ∙ sym (turn-passes _ _ _ _ (passed .before .turn-number .ensures) (passed .if1 .left) _)
 
@@ -50,8 +45,6 @@ even-number-spec =
     (tie.spec
     turn-number-requires
     returns
-    cast-seat-at
-    seat-at-requires
     up-requires
     may-take-requires
     asked-requires

@@ -10,11 +10,11 @@ use Rattle.decisions.proofs.five.five.Statement.{statement}
 use Rattle.decisions.proofs.five.five.Tie as tie
 
 five-number-requires : tie.Need-five-number-requires
-five-number-requires c κs = search needs
+five-number-requires c κs = c .pre
 
 answer-requires : tie.Need-answer-requires
 unfolding fiveConditions allOf
-answer-requires c κs = λ none. in-turn _ _ (turn-accepted _ _ _ _ refl (sym (c .five-number .ensures) ∙ none) .0)
+answer-requires c κs = ((λ none. in-turn _ _ (turn-accepted _ _ _ _ refl (sym (c .five-number .ensures) ∙ none) .0)), c .before .pre .1)
 
 returns : tie.Need-returns
 returns c =

@@ -11,7 +11,7 @@ use Rattle.decisions.proofs.insure.insure_number.Tie as tie
 
 -- the number of the conditions of every call of a guest
 early : (c : tie.After-guest-number) → c .guest-number .result ≡ first (guestConditions (inRound (c .before .before .before .args .t)) (c .before .before .before .args .t) (c .before .before .before .args .at .seat) (c .before .before .before .args .at .position))
-early c = guest-asked _ _ _ 5 _ _ _ (c .guest-number .ensures) (c .before .before .before .pre) (ap not (c .before .is-dealt .ensures))
+early c = guest-asked _ _ _ 5 _ _ _ (c .guest-number .ensures) (c .before .before .before .pre .0) (ap not (c .before .is-dealt .ensures))
 
 is-dealt-requires : tie.Need-is-dealt-requires
 is-dealt-requires c κs = search needs
@@ -24,17 +24,9 @@ unfolding insureConditions
 returns c =
     guest-refuses _ _ _ _ _ (early (c .before)) (c .if1 .taken) _
 
-cast-seat-at : tie.Need-cast-seat-at
-cast-seat-at c = search needs
-
-seat-at-requires : tie.Need-seat-at-requires
-seat-at-requires c κs =
-    guest-nine _ _ _ _ _ (early (c .before .before)) refl (c .before .if1 .left)
-
 guest-money-requires : tie.Need-guest-money-requires
 guest-money-requires c κs =
-    let passed = c .before .before in
-    guest-three _ _ _ _ _ (early (passed .before)) refl (passed .if1 .left)
+    guest-three _ _ _ _ _ (early (c .before)) refl (c .if1 .left)
 
 insurance-permitted-requires : tie.Need-insurance-permitted-requires
 insurance-permitted-requires c κs = search needs
@@ -75,8 +67,8 @@ returns-2 c =
     let round = c .before .before .before .before .before .before .before .before in
     let permitted = round .before .before .before .before .before in
     let money = permitted .before in
-    let seat = money .before in
-    let passed = seat .before .before in
+    let passed = money .before in
+    let seat = passed .before .before .before .before .pre .1 (guest-nine _ _ _ _ _ (early (passed .before)) refl (passed .if1 .left)) in
     (simp (
       c .asked7 .ensures,
       c .before .asked6 .ensures,
@@ -90,7 +82,7 @@ returns-2 c =
       round .before .before .any-decided .ensures,
       permitted .insurance-permitted .ensures,
       money .guest-money .ensures,
-      seat .seat-at .ensures,
+      seat,
     ))
     ∙ sym (guest-passes _ _ _ _ _ (early (passed .before)) refl (passed .if1 .left) _)
 
@@ -101,8 +93,6 @@ insure-number-spec =
     is-dealt-requires
     guest-number-requires
     returns
-    cast-seat-at
-    seat-at-requires
     guest-money-requires
     insurance-permitted-requires
     any-decided-requires

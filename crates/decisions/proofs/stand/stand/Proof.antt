@@ -7,10 +7,10 @@ use Rattle.decisions.proofs.stand.stand.Statement.{statement}
 use Rattle.decisions.proofs.stand.stand.Tie as tie
 
 turn-number-requires : tie.Need-turn-number-requires
-turn-number-requires c κs = search needs
+turn-number-requires c κs = c .pre
 
 answer-requires : tie.Need-answer-requires
-answer-requires c κs = turn-comes _ _ _ _ (c .turn-number .ensures)
+answer-requires c κs = (turn-comes _ _ _ _ (c .turn-number .ensures), c .before .pre .1)
 
 returns : tie.Need-returns
 returns c =

@@ -11,7 +11,7 @@ use Rattle.decisions.proofs.surrender.surrender_number.Tie as tie
 
 -- the number of the conditions of every call of a guest
 early : (c : tie.After-guest-number) → c .guest-number .result ≡ first (guestConditions (inRound (c .before .before .before .args .t)) (c .before .before .before .args .t) (c .before .before .before .args .at .seat) (c .before .before .before .args .at .position))
-early c = guest-asked _ _ _ 5 _ _ _ (c .guest-number .ensures) (c .before .before .before .pre) (ap not (c .before .is-dealt .ensures))
+early c = guest-asked _ _ _ 5 _ _ _ (c .guest-number .ensures) (c .before .before .before .pre .0) (ap not (c .before .is-dealt .ensures))
 
 is-dealt-requires : tie.Need-is-dealt-requires
 is-dealt-requires c κs = search needs
@@ -27,17 +27,9 @@ returns c =
 up-requires : tie.Need-up-requires
 up-requires c κs = search needs
 
-cast-seat-at : tie.Need-cast-seat-at
-cast-seat-at c = search needs
-
-seat-at-requires : tie.Need-seat-at-requires
-seat-at-requires c κs =
-    let passed = c .before .before in
-    guest-nine _ _ _ _ _ (early (passed .before)) refl (passed .if1 .left)
-
 guest-money-requires : tie.Need-guest-money-requires
 guest-money-requires c κs =
-    let passed = c .before .before .before .before in
+    let passed = c .before .before in
     guest-three _ _ _ _ _ (early (passed .before)) refl (passed .if1 .left)
 
 decider-requires : tie.Need-decider-requires
@@ -72,8 +64,8 @@ unfolding surrenderConditions first
 returns-2 c =
     let tests = c .before .before .before .before .before in
     let money = tests .before .before .before .before .before .before in
-    let seat = money .before .before in
-    let passed = seat .before .before .before in
+    let passed = money .before .before .before in
+    let seat = passed .before .before .before .before .pre .1 (guest-nine _ _ _ _ _ (early (passed .before)) refl (passed .if1 .left)) in
     (simp (
       c .asked5 .ensures,
       c .before .asked4 .ensures,
@@ -85,8 +77,8 @@ returns-2 c =
       tests .before .before .any-drew .ensures,
       tests .before .before .before .before .decider .ensures,
       money .guest-money .ensures,
-      seat .seat-at .ensures,
-      seat .before .before .up .ensures,
+      seat,
+      money .before .before .up .ensures,
     ))
     ∙ sym (guest-passes _ _ _ _ _ (early (passed .before)) refl (passed .if1 .left) _)
 
@@ -98,8 +90,6 @@ surrender-number-spec =
     guest-number-requires
     returns
     up-requires
-    cast-seat-at
-    seat-at-requires
     guest-money-requires
     decider-requires
     any-drew-requires

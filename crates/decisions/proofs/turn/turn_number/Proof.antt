@@ -11,7 +11,7 @@ use Rattle.decisions.proofs.turn.turn_number.Tie as tie
 
 -- the number of the conditions of every call of a guest
 early : (c : tie.After-guest-number) → c .guest-number .result ≡ first (guestConditions (inRound (c .before .before .before .args .t)) (c .before .before .before .args .t) (c .before .before .before .args .at .seat) (c .before .before .before .args .at .position))
-early c = guest-asked _ _ _ 5 _ _ _ (c .guest-number .ensures) (c .before .before .before .pre) (ap not (c .before .is-dealt .ensures))
+early c = guest-asked _ _ _ 5 _ _ _ (c .guest-number .ensures) (c .before .before .before .pre .0) (ap not (c .before .is-dealt .ensures))
 
 is-dealt-requires : tie.Need-is-dealt-requires
 is-dealt-requires c κs = search needs
@@ -27,13 +27,9 @@ returns c =
 cast-j : tie.Need-cast-j
 cast-j c = search needs
 
-seat-at-requires : tie.Need-seat-at-requires
-seat-at-requires c κs =
-    guest-nine _ _ _ _ _ (early (c .before .before)) refl (c .before .if1 .left)
-
 guest-money-requires : tie.Need-guest-money-requires
 guest-money-requires c κs =
-    let passed = c .before .before in
+    let passed = c .before in
     guest-three _ _ _ _ _ (early (passed .before)) refl (passed .if1 .left)
 
 seat-in-turn-requires : tie.Need-seat-in-turn-requires
@@ -56,8 +52,8 @@ unfolding turnConditions first
 returns-2 c =
     let tests = c .before .before .before .before in
     let money = tests .before .before .before in
-    let seat = money .before in
-    let passed = seat .before .before in
+    let passed = money .before .before in
+    let seat = passed .before .before .before .before .pre .1 (guest-nine _ _ _ _ _ (early (passed .before)) refl (passed .if1 .left)) in
     (simp (
       c .asked3 .ensures,
       c .before .asked2 .ensures,
@@ -65,7 +61,7 @@ returns-2 c =
       tests .decider .ensures,
       tests .before .seat-in-turn .ensures,
       money .guest-money .ensures,
-      seat .seat-at .ensures,
+      seat,
     ))
     ∙ sym (guest-passes _ _ _ _ _ (early (passed .before)) refl (passed .if1 .left) _)
 
@@ -77,7 +73,6 @@ turn-number-spec =
     guest-number-requires
     returns
     cast-j
-    seat-at-requires
     guest-money-requires
     seat-in-turn-requires
     decider-requires

@@ -1,23 +1,20 @@
--- The effect from what was read; an accepted draw or double has the money, and the tray the prizes.
-use mathlib.Core.Path.{_≡_, sym, ap}
+-- What is moved from what was read; an accepted draw or double has the money, and the tray the prizes.
+use mathlib.Core.Path.{_≡_, refl, sym, ap}
 use native.Mathlib.Omega.{arith}
 use borrow.Author.Needs.{needs}
 use lib.ListN.{length, length-map}
 use Rattle.rules.specs.SeatHand.{playedOf}
 use Rattle.decisions.proofs.turn.Laws.{read-waits}
 use Rattle.draw.specs.Aids.Drawable.{onePrizeEach}
-use Rattle.draw.proofs.card.Laws.{all-most, next-is}
+use Rattle.draw.proofs.card.Laws.{all-most, next-is, place-is}
 use Rattle.draw.proofs.card.with_next_card.Statement.{statement}
 use Rattle.draw.proofs.card.with_next_card.Tie as tie
-
-cast-j : tie.Need-cast-j
-cast-j c = search needs
 
 up-requires : tie.Need-up-requires
 up-requires c κs = search needs
 
-seat-at-requires : tie.Need-seat-at-requires
-seat-at-requires c κs = search needs
+waiting-place-requires : tie.Need-waiting-place-requires
+waiting-place-requires c κs = search needs
 
 slice-aggregate-card-ahead : tie.Need-slice-aggregate-card-ahead
 slice-aggregate-card-ahead c =
@@ -31,55 +28,56 @@ card-ahead-requires c κs = search needs
 grown-requires : tie.Need-grown-requires
 grown-requires c κs =
     let read = c .before .before in
-    read-waits _ _ _ _ (read .before .before .before .before .before .before .pre .turn) (read .before .up .ensures) (read .seat-at .ensures)
+    let start = read .before .before .before .before .before .before in
+    read-waits _ _ _ _ (start .pre .0 .turn) (read .before .up .ensures) (start .pre .1)
 
 all-won-requires : tie.Need-all-won-requires
 all-won-requires c κs =
-    let read = c .before .before .before in
-    let pre = read .before .before .before .before .before .before .pre in
-    rw (read .seat-at .ensures) (omega (arith, pre .tray-has, pre .tray-fits))
+    let start = c .before .before .before .before .before .before .before .before .before in
+    rw (start .pre .1) (omega (arith, start .pre .0 .tray-has, start .pre .0 .tray-fits))
 
 grown-seat-requires : tie.Need-grown-seat-requires
 grown-seat-requires c κs =
-    let read = c .before .before .before .before in
-    rw (read .seat-at .ensures) (read .before .before .before .before .before .before .pre .guests)
+    let start = c .before .before .before .before .before .before .before .before .before .before in
+    rw (start .pre .1) (start .pre .0 .guests)
 
-with-drawn-requires : tie.Need-with-drawn-requires
-with-drawn-requires c κs = c .before .before .before .before .before .before .before .before .before .before .before .pre .card-left
-
-with-seat-requires : tie.Need-with-seat-requires
-with-seat-requires c κs = search needs
-
-sub-next : tie.Need-sub-next
-sub-next c =
-    let won = c .before .before .before .before in
+sub-t18 : tie.Need-sub-t18
+sub-t18 c =
+    let won = c .before .before in
     let hand = won .before in
-    let read = hand .before .before .before in
-    let start = read .before .before .before .before .before .before in
-    omega (arith, start .pre .tray-has, won .all-won .ensures, ap onePrizeEach (read .seat-at .ensures), all-most (start .args .t .options) (playedOf (hand .grown .result)) (read .seat-at .result))
+    let start = hand .before .before .before .before .before .before .before .before .before in
+    omega (arith, start .pre .0 .tray-has, won .all-won .ensures, ap onePrizeEach (start .pre .1), all-most (start .args .t .options) (playedOf (hand .grown .result)) (start .args .s))
+
+add-t19 : tie.Need-add-t19
+add-t19 c =
+    let start = c .before .before .before .before .before .before .before .before .before .before .before .before .before in
+    record { fits = omega (arith, start .pre .0 .card-left) }
 
 returns : tie.Need-returns
 returns c =
-    let seat = c .before .before .before in
+    let seat = c .before .before in
     let hand = seat .before .before in
-    let read = hand .before .before .before in
-    let start = read .before .before .before .before .before .before in
-    next-is (start .args .t) (start .args .at .seat) (start .args .times) (start .args .code) (c .before .with-seat .ensures) (c .before .before .with-drawn .ensures)
-    (seat .grown-seat .ensures) (seat .before .all-won .ensures) (hand .grown .ensures) (hand .before .card-ahead .ensures) (read .before .up .ensures) (read .seat-at .ensures)
+    let place = hand .before .before .before in
+    let start = place .before .before .before .before .before .before in
+    let t = start .args .t in
+    let j = start .args .at .seat in
+    let upped = place .before .up .ensures in (
+      refl,
+      next-is t j (start .args .times) (start .args .code) (place .waiting-place .result) (seat .grown-seat .ensures) (seat .before .all-won .ensures) (hand .grown .ensures) (hand .before .card-ahead .ensures) upped (start .pre .1),
+      place-is t j (place .waiting-place .ensures) upped (start .pre .1),
+    )
 
 pub with-next-card-spec : {M : Type 1} → statement M
 with-next-card-spec =
     tie.close
     (tie.spec
-    cast-j
     up-requires
-    seat-at-requires
+    waiting-place-requires
     slice-aggregate-card-ahead
     card-ahead-requires
     grown-requires
     all-won-requires
     grown-seat-requires
-    with-drawn-requires
-    with-seat-requires
-    sub-next
+    sub-t18
+    add-t19
     returns)

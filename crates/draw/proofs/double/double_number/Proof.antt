@@ -8,27 +8,20 @@ use Rattle.draw.proofs.double.double_number.Statement.{statement}
 use Rattle.draw.proofs.double.double_number.Tie as tie
 
 turn-number-requires : tie.Need-turn-number-requires
-turn-number-requires c κs = search needs
+turn-number-requires c κs = c .pre
 
 returns : tie.Need-returns
 unfolding doubleConditions
 returns c = turn-refuses _ _ _ _ (c .before .turn-number .ensures) (c .if1 .taken) _
-
-cast-seat-at : tie.Need-cast-seat-at
-cast-seat-at c = search needs
-
-seat-at-requires : tie.Need-seat-at-requires
-seat-at-requires c κs = turn-comes _ _ _ _ (c .before .before .before .turn-number .ensures) (c .before .before .if1 .left) .nine
 
 up-requires : tie.Need-up-requires
 up-requires c κs = search needs
 
 may-take-requires : tie.Need-may-take-requires
 may-take-requires c κs =
-    let seat = c .before in
-    let passed = seat .before .before .before in
+    let passed = c .before .before in
     let turn = turn-comes _ _ _ _ (passed .before .turn-number .ensures) (passed .if1 .left) in
-    read-waits _ _ _ _ turn (c .up .ensures) (seat .seat-at .ensures)
+    read-waits _ _ _ _ turn (c .up .ensures) (passed .before .before .pre .1 (turn .nine))
 
 purse-short-requires : tie.Need-purse-short-requires
 purse-short-requires c κs = search needs
@@ -49,8 +42,8 @@ returns-2 : tie.Need-returns-2
 unfolding doubleConditions first
 returns-2 c =
     let tests = c .before .before .before in
-    let seat = tests .before .before .before .before in
-    let passed = seat .before .before .before in
+    let passed = tests .before .before .before .before .before in
+    let turn = turn-comes _ _ _ _ (passed .before .turn-number .ensures) (passed .if1 .left) in
     (simp (
       c .asked3 .ensures,
       c .before .asked2 .ensures,
@@ -59,7 +52,7 @@ returns-2 c =
       tests .before .purse-short .ensures,
       tests .before .before .may-take .ensures,
       tests .before .before .before .up .ensures,
-      seat .seat-at .ensures,
+      passed .before .before .pre .1 (turn .nine),
     ))
     ∙ sym (turn-passes _ _ _ _ (passed .before .turn-number .ensures) (passed .if1 .left) _)
 
@@ -69,8 +62,6 @@ double-number-spec =
     (tie.spec
     turn-number-requires
     returns
-    cast-seat-at
-    seat-at-requires
     up-requires
     may-take-requires
     purse-short-requires

@@ -10,27 +10,20 @@ use Rattle.draw.proofs.split.split_number.Statement.{statement}
 use Rattle.draw.proofs.split.split_number.Tie as tie
 
 turn-number-requires : tie.Need-turn-number-requires
-turn-number-requires c κs = search needs
+turn-number-requires c κs = c .pre
 
 returns : tie.Need-returns
 unfolding splitConditions
 returns c = turn-refuses _ _ _ _ (c .before .turn-number .ensures) (c .if1 .taken) _
-
-cast-seat-at : tie.Need-cast-seat-at
-cast-seat-at c = search needs
-
-seat-at-requires : tie.Need-seat-at-requires
-seat-at-requires c κs = turn-comes _ _ _ _ (c .before .before .before .turn-number .ensures) (c .before .before .if1 .left) .nine
 
 up-requires : tie.Need-up-requires
 up-requires c κs = search needs
 
 waiting-hand-requires : tie.Need-waiting-hand-requires
 waiting-hand-requires c κs =
-    let seat = c .before .before in
-    let passed = seat .before .before .before in
+    let passed = c .before .before .before in
     let turn = turn-comes _ _ _ _ (passed .before .turn-number .ensures) (passed .if1 .left) in
-    read-waits _ _ _ _ turn (c .up .ensures) (seat .seat-at .ensures)
+    read-waits _ _ _ _ turn (c .up .ensures) (passed .before .before .pre .1 (turn .nine))
 
 cast-most : tie.Need-cast-most
 cast-most c = search needs
@@ -64,10 +57,11 @@ unfolding splitConditions first
 returns-2 c =
     let tests = c .before .before .before .before in
     let hand = tests .before .before .before .before .before .before in
-    let seat = hand .before .before .before in
-    let passed = seat .before .before .before in
-    let full : length (seat .seat-at .result .hands .places) ≡ 4 = simp length-map at (seat .seat-at .ok .1 .1 .1 .1 .0 .1 .1 .0 .1 .0 .1) in
-    let many = tests .before .before .used .ensures ∙ sym (many-hands (seat .seat-at .result .hands) full) in
+    let passed = hand .before .before .before .before in
+    let turn = turn-comes _ _ _ _ (passed .before .turn-number .ensures) (passed .if1 .left) in
+    let start = passed .before .before in
+    let full : length (start .args .s .hands .places) ≡ 4 = simp length-map at (start .good .1 .0 .1 .1 .1 .1 .0 .1 .1 .0 .1 .0 .1) in
+    let many = tests .before .before .used .ensures ∙ sym (many-hands (start .args .s .hands) full) in
     (simp (
       c .asked4 .ensures,
       c .before .asked3 .ensures,
@@ -79,7 +73,7 @@ returns-2 c =
       tests .before .before .before .is-pair .ensures,
       hand .waiting-hand .ensures,
       hand .before .up .ensures,
-      seat .seat-at .ensures,
+      start .pre .1 (turn .nine),
     ))
     ∙ sym (turn-passes _ _ _ _ (passed .before .turn-number .ensures) (passed .if1 .left) _)
 
@@ -89,8 +83,6 @@ split-number-spec =
     (tie.spec
     turn-number-requires
     returns
-    cast-seat-at
-    seat-at-requires
     up-requires
     waiting-hand-requires
     cast-most

@@ -5,58 +5,52 @@ use mathlib.Core.List.{List, [], _∷_}
 use Prim.Native.Nat.{ℕ}
 use lib.Dec.{eqb}
 use borrow.Author.Needs.{needs}
-use borrow.Author.Tests.{ne-eqb}
+use borrow.Author.Tests.{eq-eqb, ne-eqb}
 use Rattle.cards.specs.declared.score.HandScore.{HandScore}
 use types.Run.{OneOf, miss}
 use denote.Enum.Declared.{tagOf}
 use Rattle.call.specs.declared.Call.{Call}
 use Rattle.call.specs.declared.Call.the-variants.{Fill, Credit, Buy, Cash, Stake, Deal, Insure, Stand, Draw, Double, Split, Surrender, Even, Five, Close, Void, Load, Side}
 use Rattle.call.proofs.Call.{the-type}
-use Rattle.table.specs.declared.Table.{Table}
+use Rattle.answer.specs.declared.moved.Moved.{Moved}
 use Rattle.answer.specs.Scores.{scoresOf}
-use Rattle.engine.specs.Scores.{handScores}
+use Rattle.engine.specs.Aids.MovedScores.{movedScores}
 use Rattle.engine.proofs.scores.scores_of.Statement.{statement}
 use Rattle.engine.proofs.scores.scores_of.Tie as tie
 
 -- an accepted call shows the scores of its kind
-shows : (n : ℕ) (t : Table) {c d : Call} (after : Table) {ss : List HandScore} → n ≡ 0 → c ≡ d → ss ≡ handScores t d after → ss ≡ cond (eqb n 0) (handScores t c after) []
-shows n t after accepted known same = rw (accepted, known) same
+shows : (m : Moved) {c d : Call} {ss : List HandScore} → m .number ≡ 0 → c ≡ d → ss ≡ movedScores d m → ss ≡ cond (eqb (m .number) 0) (movedScores c m) []
+shows m accepted known same = rw (eq-eqb (m .number) 0 accepted, known) same
 
--- the tags of all calls but deal, draw, double and split, which show no score
+-- the tags of all calls but draw, double and split
 abbrev others : List ℕ
-others = 0 ∷ 1 ∷ 2 ∷ 3 ∷ 4 ∷ 6 ∷ 7 ∷ 11 ∷ 12 ∷ 13 ∷ 14 ∷ 15 ∷ 16 ∷ 17 ∷ []
+others = 0 ∷ 1 ∷ 2 ∷ 3 ∷ 4 ∷ 5 ∷ 6 ∷ 7 ∷ 11 ∷ 12 ∷ 13 ∷ 14 ∷ 15 ∷ 16 ∷ 17 ∷ []
 
-none-shown : (t : Table) (c : Call) (after : Table) → OneOf others (tagOf the-type c) → [] ≡ handScores t c after
-none-shown t (Fill n) after k = refl
-none-shown t (Credit n) after k = refl
-none-shown t (Buy at n) after k = refl
-none-shown t (Cash at n) after k = refl
-none-shown t (Stake at n) after k = refl
-none-shown t Deal after k = absurd (miss others 5 tt k)
-none-shown t (Insure at n) after k = refl
-none-shown t (Stand at) after k = refl
-none-shown t (Draw at) after k = absurd (miss others 8 tt k)
-none-shown t (Double at) after k = absurd (miss others 9 tt k)
-none-shown t (Split at) after k = absurd (miss others 10 tt k)
-none-shown t (Surrender at) after k = refl
-none-shown t (Even at) after k = refl
-none-shown t (Five at) after k = refl
-none-shown t Close after k = refl
-none-shown t Void after k = refl
-none-shown t Load after k = refl
-none-shown t (Side at j n) after k = refl
+none-shown : (m : Moved) (c : Call) → OneOf others (tagOf the-type c) → [] ≡ movedScores c m
+none-shown m (Fill n) k = refl
+none-shown m (Credit n) k = refl
+none-shown m (Buy at n) k = refl
+none-shown m (Cash at n) k = refl
+none-shown m (Stake at n) k = refl
+none-shown m Deal k = refl
+none-shown m (Insure at n) k = refl
+none-shown m (Stand at) k = refl
+none-shown m (Draw at) k = absurd (miss others 8 tt k)
+none-shown m (Double at) k = absurd (miss others 9 tt k)
+none-shown m (Split at) k = absurd (miss others 10 tt k)
+none-shown m (Surrender at) k = refl
+none-shown m (Even at) k = refl
+none-shown m (Five at) k = refl
+none-shown m Close k = refl
+none-shown m Void k = refl
+none-shown m Load k = refl
+none-shown m (Side at j n) k = refl
 
 no-scores-requires : tie.Need-no-scores-requires
 no-scores-requires c κs = search needs
 
 returns : tie.Need-returns
 returns c = ap scoresOf (c .no-scores .ensures) ∙ rw (ne-eqb _ 0 (c .before .if1 .taken))
-
-enum-told : tie.Need-enum-told
-enum-told c = search needs
-
-deal-scores-requires : tie.Need-deal-scores-requires
-deal-scores-requires c κs = search needs
 
 enum-known-c : tie.Need-enum-known-c
 enum-known-c c = search needs
@@ -81,30 +75,24 @@ no-scores-requires-2 c κs = search needs
 
 returns-2 : tie.Need-returns-2
 returns-2 c =
-    let at = c .before .before in
-    shows _ (at .before .before .before .args .t) _ (at .before .if1 .left) (c .before .enum-told .given .1) (c .deal-scores .ensures)
+    let at = c .before .before .before in
+    shows (at .before .before .before .args .m) (at .before .if1 .left) (c .before .before .c .given .1) (c .card-scores .ensures)
 
 returns-3 : tie.Need-returns-3
 returns-3 c =
     let at = c .before .before .before in
-    shows _ (at .before .before .before .args .t) _ (at .before .if1 .left) (c .before .before .c .given .1) (c .card-scores .ensures)
+    shows (at .before .before .before .args .m) (at .before .if1 .left) (c .before .before .c2 .given .1) (c .card-scores2 .ensures)
 
 returns-4 : tie.Need-returns-4
 returns-4 c =
     let at = c .before .before .before in
-    shows _ (at .before .before .before .args .t) _ (at .before .if1 .left) (c .before .before .c2 .given .1) (c .card-scores2 .ensures)
+    shows (at .before .before .before .args .m) (at .before .if1 .left) (c .before .before .c3 .given .1) (c .split-scores .ensures)
 
 returns-5 : tie.Need-returns-5
 returns-5 c =
-    let at = c .before .before .before in
-    shows _ (at .before .before .before .args .t) _ (at .before .if1 .left) (c .before .before .c3 .given .1) (c .split-scores .ensures)
-
-returns-6 : tie.Need-returns-6
-returns-6 c =
     let at = c .before in
     let a = at .before .before .before .args in
-    ap scoresOf (c .no-scores2 .ensures)
-    ∙ shows (a .o .number) (a .t) {c = a .c} (a .o .table) (at .before .if1 .left) refl (none-shown (a .t) (a .c) (a .o .table) (at .match .keys5))
+    ap scoresOf (c .no-scores2 .ensures) ∙ shows (a .m) {c = a .c} (at .before .if1 .left) refl (none-shown (a .m) (a .c) (at .match .keys4))
 
 pub scores-of-spec : {M : Type 1} → statement M
 scores-of-spec =
@@ -112,8 +100,6 @@ scores-of-spec =
     (tie.spec
     no-scores-requires
     returns
-    enum-told
-    deal-scores-requires
     enum-known-c
     card-scores-requires
     enum-known-c-2
@@ -124,5 +110,4 @@ scores-of-spec =
     returns-2
     returns-3
     returns-4
-    returns-5
-    returns-6)
+    returns-5)
