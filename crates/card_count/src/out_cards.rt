@@ -39,7 +39,7 @@ fn count_seat(of: &mut [u16; 256], s: SeatHands) -> usize
     many
 }
 
-// The cards of all seats' hands.
+// The cards of all seats' hands. A seat without a hand is passed over.
 fn count_seats(of: &mut [u16; 256], t: Table) -> usize
     requires { ⌜ Room (now of) 720 ⌝ }
     ensures { λ r. ⌜ Counted (now (of .entry)) (now (of .exit)) (handCards t) r 720 ⌝ }
@@ -49,7 +49,9 @@ fn count_seats(of: &mut [u16; 256], t: Table) -> usize
     for i in 0usize..9 {
         let s = seats[i];
         let hands = s.hands;
-        many += count_seat(of, hands);
+        if hands.many != 0 {
+            many += count_seat(of, hands);
+        }
     }
     many
 }

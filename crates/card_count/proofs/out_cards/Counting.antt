@@ -32,6 +32,10 @@ counted-join {a} {b} {c} {xs} {ys} e f =
 pub counted-is : {a b xs ys : List ℕ} {k m l : ℕ} → Counted a b xs k m → xs ≡ ys → m ≤ l → Counted a b ys k l
 counted-is {a} e same h = record { counters = e .counters ∙ ap (countedAll a) same; number = e .number ∙ ap length same; few = omega arith }
 
+-- the same counters and number by other names
+pub counted-at : {a b c xs : List ℕ} {k l m : ℕ} → c ≡ b → l ≡ k → Counted a b xs k m → Counted a c xs l m
+counted-at e f counted = record { counters = e ∙ counted .counters; number = f ∙ counted .number; few = omega (arith, f, counted .few) }
+
 -- the first cards of an array, of which a damaged count takes all
 module _ (a cards : List ℕ) (n k most : ℕ) (full : length cards ≡ most) where
   pub room-first : Room a most → Room a (length (take k cards))
