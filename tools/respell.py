@@ -3,7 +3,7 @@
 
 Run once, at the top, after the toolchain's port.py. Definitions and locals of antt files in lower camel case become snake case (isAce: is_ace), in antt files, in clauses and imports of .rt files
 and in the edits. A lemma's name is cut at its dashes: parts that together name a definition, a function or a word of the library stay joined to it by an underscore, two such names are joined by
-a dash, any other part by an underscore. Names that would fall together with another keep apart by "_lem". Functions of src/, strings, inputs and outputs keep their names.
+a dash, any other part by an underscore. Fields of records are in snake case. Names that would fall together with another keep apart by "_lem". Functions of src/, strings, inputs and outputs keep their names.
 Prints each name that changed."""
 import collections, glob, re, sys
 
@@ -30,10 +30,20 @@ def read(f):
 
 
 def gather():
-    defs, lemmas, goals = set(), collections.defaultdict(list), set()
+    defs, lemmas, goals, fields = set(), collections.defaultdict(list), set(), set()
     for f in antt_files():
+        is_record = False
         for line in read(f).split("\n"):
-            if line.lstrip().startswith("pub "):
+            if re.match(r"(?:pub )?record ", line):
+                is_record = True
+            elif line and line[0] != " ":
+                is_record = False
+            field = re.match(r" +(?:pub )?([^\s:{}()]+) :", line)
+            if is_record and field:
+                if "-" in field.group(1):
+                    fields.add(field.group(1))
+                continue
+            if re.match(r"  +(?:abbrev |unfoldable )?pub ", line):
                 line = line.lstrip()
             if not line or line[0] in " -" or line.startswith(("use ", "mod ", "pub mod", "pub use", "unfolding")):
                 continue
@@ -47,7 +57,7 @@ def gather():
                 defs.add(name)
             else:
                 lemmas[name].append(f)
-    return defs, lemmas, goals
+    return defs, lemmas, goals, fields
 
 
 def functions():
@@ -76,7 +86,7 @@ def cut(name, known):
 
 
 def table():
-    defs, lemmas, goals = gather()
+    defs, lemmas, goals, fields = gather()
     fns = functions()
     camel = set()
     for f in antt_files() + glob.glob("crates/*/src/**/*.rt", recursive=True):
@@ -91,7 +101,10 @@ def table():
             new[snake(c)] = snake(c) + "_lem"
     known = {new.get(d, d) for d in defs} | fns | WORDS
     taken = set(new.values()) | set(camel) | {d for d in defs} | {n for n in lemmas if "-" not in n}
-    for name in sorted(lemmas):
+    for name in sorted(fields):
+        to = name.replace("-", "_")
+        new[name] = to + ("_lem" if to in taken else "")
+    for name in sorted(set(lemmas) - fields):
         if "-" not in name or name in goals or not re.fullmatch(r"[A-Za-z0-9_'-]+", name):
             continue
         to = cut(name, known)
@@ -100,16 +113,16 @@ def table():
         if to != name:
             new[name] = to
         taken.add(to)
-    return new, defs, lemmas
+    return new, defs, lemmas, fields
 
 
-def turn(text, new, rust):
+def turn(text, new, fields, rust):
     def one(m):
         name = m.group(1)
         to = new.get(name)
         if to is None:
             return name
-        if "-" in name and m.start() > 0 and text[m.start() - 1] == "." and not re.search(r"[A-Z][A-Za-z0-9]*\.$", text[max(0, m.start() - 40):m.start()]):
+        if "-" in name and name not in fields and m.start() > 0 and text[m.start() - 1] == "." and not re.search(r"[A-Z][A-Za-z0-9]*\.$", text[max(0, m.start() - 40):m.start()]):
             return name
         return to
     if not rust:
@@ -119,7 +132,7 @@ def turn(text, new, rust):
 
 
 def main():
-    new, defs, lemmas = table()
+    new, defs, lemmas, fields = table()
     seen = collections.defaultdict(list)
     for a, b in new.items():
         seen[b].append(a)
@@ -133,7 +146,7 @@ def main():
     files = antt_files() + sorted(glob.glob("crates/*/src/**/*.rt", recursive=True)) + sorted(glob.glob("crates/*/must-fail/*.edit"))
     for f in files:
         text = read(f)
-        out = turn(text, new, not f.endswith(".antt"))
+        out = turn(text, new, fields, not f.endswith(".antt"))
         if out != text:
             open(f, "w", encoding="utf8").write(out)
 

@@ -5,7 +5,7 @@ ghost use Rattle.answer.specs.Moved.{make_moved};
 use table::{Seat, Table};
 
 // The call's number; behind 0 the seat after it, the tray, the number of drawn cards, and the place of the hand that the call was about, which is called aloud.
-#[derive(Drop)]
+#[derive(Clone, Copy)]
 pub struct Moved {
     pub number: u8,
     pub tray: u64,

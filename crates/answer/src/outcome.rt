@@ -2,7 +2,7 @@
 use table::Table;
 
 #[repr(C)]
-#[derive(Drop)]
+#[derive(Clone, Copy)]
 pub struct Outcome {
     pub number: u8,
     pub table: Table,

@@ -10,7 +10,7 @@ use table::Table;
 
 // The call's number, the bank's cards, the number of pay lines and the scores; only an accepted close has cards and lines.
 #[repr(C)]
-#[derive(Drop)]
+#[derive(Clone, Copy)]
 pub struct Answer {
     pub number: u8,
     pub bank: Hand,
@@ -19,7 +19,7 @@ pub struct Answer {
 }
 
 #[repr(C)]
-#[derive(Drop)]
+#[derive(Clone, Copy)]
 pub struct Reply {
     pub answer: Answer,
     pub table: Table,

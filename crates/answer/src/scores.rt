@@ -5,7 +5,7 @@ ghost use Rattle.answer.specs.Scores.{no_scores, with_score};
 use cards::score::HandScore;
 
 #[repr(C)]
-#[derive(Drop)]
+#[derive(Clone, Copy)]
 pub struct Scores {
     pub each: [HandScore; 9],
     pub count: usize,

@@ -1,5 +1,7 @@
 // The numbers of many small files (request 2.9), each of which breaks one rule, and of good ones beside them. The file stdin has them one behind the other: a line that names the file, its
 // length in two bytes, its bytes. The expected lines, in the file stdout, are worked out from the request by hand.
+#![tactic(auto)]
+
 ghost use Rattle.std.specs.Prelude.{◌<◌, length};
 
 use libc::{STDIN_FILENO, STDOUT_FILENO};

@@ -1,4 +1,6 @@
 // The bank's chances in whole numbers (request 2.10): all ordered draws of some of the cards that are left, counted by where the bank's rule ends in them.
+#![tactic(auto)]
+
 mod ending;
 mod left;
 pub mod share;
@@ -12,7 +14,7 @@ use cards::hand::{empty_hand, with_card};
 
 // The number, 0 where it is accepted; how many draws there are; and of them those that end with a natural, 17, 18, 19, 20, 21 otherwise, bust, unfinished.
 #[repr(C)]
-#[derive(Drop)]
+#[derive(Clone, Copy)]
 pub struct BankChances {
     pub number: u8,
     pub all: u64,

@@ -10,7 +10,7 @@ use cards::hand::{Hand, with_card};
 use payment::bank::must_draw;
 
 // A count for each of the eight endings.
-#[derive(Drop)]
+#[derive(Clone, Copy)]
 pub(crate) struct Counts {
     pub each: [u64; 8],
 }

@@ -1,4 +1,6 @@
 // A fixed workload of whole sessions, for as many calls as the argument says; then a checksum of money and cards.
+#![tactic(auto)]
+
 use broken::broken;
 use call::pay_line::LINES;
 use cashier::opening::opening;

@@ -1,5 +1,7 @@
 // Writes the session file of one session of the workload, then checks that file and plays it (request 2.9) again and again, until as many calls are replayed as the argument says; then a checksum of the
 // last table.
+#![tactic(auto)]
+
 mod replays;
 mod writing;
 

@@ -8,7 +8,7 @@ use session_file::reader::{call_at, call_place};
 use table::Table;
 
 // The last table, and how many calls are still to be replayed.
-#[derive(Drop)]
+#[derive(Clone, Copy)]
 pub(crate) struct Replay {
     pub table: Table,
     pub left: u64,

@@ -14,7 +14,7 @@ pub(crate) const ROOM: usize = 65536;
 const MOST: usize = 4096;
 
 // The plan, the table, the writer, and how many bytes of the file are complete.
-#[derive(Drop)]
+#[derive(Clone, Copy)]
 pub(crate) struct Session {
     pub plan: Plan,
     pub table: Table,

@@ -103,7 +103,7 @@ fn sound_hand(o: Options, up: u8, many: u8, h: SeatHand) -> bool
 }
 
 // What a look at a seat's hands gives: whether all in use are sound, and their wagers and prizes.
-#[derive(Drop)]
+#[derive(Clone, Copy)]
 pub(crate) struct Looked {
     pub(crate) sound: bool,
     pub(crate) wagers: u64,

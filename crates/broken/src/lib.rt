@@ -1,5 +1,7 @@
 // Whether a table is broken, number 1 of every call (docs/BROKEN.md). Any table value is taken: counts past their arrays, sums that would not fit, bytes
 // that are no card, codes out of range.
+#![tactic(auto)]
+
 mod hand;
 mod seat;
 
@@ -23,7 +25,7 @@ use state::round::{is_dealt, up};
 use table::{Shoe, Table};
 
 // What the pass over the seats gives: whether all are sound, their sums, and the number of cards in their hands.
-#[derive(Drop)]
+#[derive(Clone, Copy)]
 struct Pass {
     sound: bool,
     sums: Sums,

@@ -22,7 +22,7 @@ use state::seat::{guest_at, no_money, no_sides};
 use table::{Money, Seat};
 
 // What a test of guests gives: whether they are sound, and their sums, which are so worked out once.
-#[derive(Drop)]
+#[derive(Clone, Copy)]
 pub(crate) struct Survey {
     pub(crate) sound: bool,
     pub(crate) sums: Sums,

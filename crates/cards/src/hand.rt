@@ -3,7 +3,7 @@ ghost use Rattle.std.specs.Prelude.{◌≡◌, min};
 ghost use Rattle.cards.specs.Hand.{empty_hand, with_card};
 
 #[repr(C)]
-#[derive(Drop)]
+#[derive(Clone, Copy)]
 pub struct Hand {
     pub cards: [u8; 20],
     pub count: u8,

@@ -8,7 +8,7 @@ use crate::total::{low_sum, total};
 
 // A total of at most 200 and a yes or no.
 #[repr(C)]
-#[derive(Drop)]
+#[derive(Clone, Copy)]
 pub struct HandScore {
     pub total: u8,
     pub soft: bool,

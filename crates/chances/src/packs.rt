@@ -13,7 +13,7 @@ pub(crate) fn decks_less(decks: u8, up: u8) -> [u8; 52] {
 }
 
 // The faces left while cards are named.
-#[derive(Drop)]
+#[derive(Clone, Copy)]
 struct Pack {
     pub left: [u8; 52],
 }

@@ -1,5 +1,7 @@
 // close: the bank's cards are drawn, all is paid and all cards become discards (document 01, "The seventeen calls" and "Payment"). Beside it stands
 // `void`, which ends a round too; the other modules are their parts, and only these two calls are public.
+#![tactic(auto)]
+
 mod bank_draw;
 mod clearing;
 mod pay_lines;

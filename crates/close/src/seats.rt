@@ -16,7 +16,7 @@ use state::seat::{guest_at, guest_money, no_money};
 use table::{Money, Seat, Table};
 
 // How a round ends: void gives back what was laid, close pays by the bank's score.
-#[derive(Drop)]
+#[derive(Clone, Copy)]
 pub(crate) enum Ending {
     Void,
     Paid(Score),

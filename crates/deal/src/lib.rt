@@ -1,5 +1,7 @@
 // deal: burns, then one card to each staked seat, one to the bank, a second to each seat, and with the box to the bank too (document 01, "The seventeen calls";
 // articles 4 and 5; request 2.7).
+#![tactic(auto)]
+
 mod burn;
 mod pass;
 

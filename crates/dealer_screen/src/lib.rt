@@ -1,5 +1,7 @@
 // The dealer's screen (request 2.12): the touch fields that are lit, and the rows of hands. A layer above the engine that knows it by its promises: a field is lit where a step of its call would be
 // accepted, and nothing of the engine's rules is said again.
+#![tactic(auto)]
+
 pub mod lights;
 pub mod rows;
 
@@ -14,7 +16,7 @@ use table::Table;
 
 // The fields by seat and position; six rows, how many of them show a hand, and how many hands there are beyond them.
 #[repr(C)]
-#[derive(Drop)]
+#[derive(Clone, Copy)]
 pub struct Screen {
     pub seats: [SeatLights; 9],
     pub rows: [Row; 6],

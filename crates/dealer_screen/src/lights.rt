@@ -11,7 +11,7 @@ use state::seat::{guest_money, seat_at};
 use table::Table;
 
 #[repr(C)]
-#[derive(Drop)]
+#[derive(Clone, Copy)]
 pub struct Lights {
     pub buy: bool,
     pub cash: bool,
@@ -32,7 +32,7 @@ pub struct Lights {
 
 // The fields of a seat, by position.
 #[repr(C)]
-#[derive(Drop)]
+#[derive(Clone, Copy)]
 pub struct SeatLights {
     pub guests: [Lights; 3],
 }

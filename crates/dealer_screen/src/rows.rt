@@ -14,7 +14,7 @@ use table::{Seat, Table};
 
 // Seat, place, cards and total of a hand.
 #[repr(C)]
-#[derive(Drop)]
+#[derive(Clone, Copy)]
 pub struct Row {
     pub seat: usize,
     pub place: usize,
@@ -23,7 +23,7 @@ pub struct Row {
 }
 
 // The first six rows, and how many hands there are in all.
-#[derive(Drop)]
+#[derive(Clone, Copy)]
 pub(crate) struct Rows {
     pub each: [Row; 6],
     pub count: usize,

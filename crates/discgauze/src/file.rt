@@ -52,7 +52,7 @@ pub extern "C" fn discgauze_file_first(file: &[u8]) -> usize
 
 // A call that the file hands out, by its numbers; the place and the number of cards of the order that a load reads; the place behind the call.
 #[repr(C)]
-#[derive(Drop)]
+#[derive(Clone, Copy)]
 pub struct FileCall {
     pub found: bool,
     pub kind: u8,

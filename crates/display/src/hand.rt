@@ -11,7 +11,7 @@ use table::{Seat, Table};
 
 // A hand's cards, their total and whether it is soft, its wager, where it comes from and how it ended.
 #[repr(C)]
-#[derive(Drop)]
+#[derive(Clone, Copy)]
 pub struct HandShown {
     pub hand: Hand,
     pub total: u8,

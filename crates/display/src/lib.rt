@@ -1,4 +1,6 @@
 // What a display reads of the whole table, and whose turn it is. A broken table shows nothing.
+#![tactic(auto)]
+
 pub mod hand;
 pub mod seat;
 
@@ -17,7 +19,7 @@ use table::Table;
 
 // The options; the tray, all layout and all purses; how many cards are left, how many are discards, and of the bank the up card.
 #[repr(C)]
-#[derive(Drop)]
+#[derive(Clone, Copy)]
 pub struct TableShown {
     pub options: Options,
     pub tray: u64,
@@ -30,7 +32,7 @@ pub struct TableShown {
 
 // The seat and place whose turn it is, and the position of the guest who decides (request 2.8); all 0 where it is nobody's.
 #[repr(C)]
-#[derive(Drop)]
+#[derive(Clone, Copy)]
 pub struct TurnShown {
     pub somebody: bool,
     pub seat: usize,

@@ -12,7 +12,7 @@ use table::{Seat, Table};
 
 // The purse, the stake, the insurance and the side stakes by kind; the layout money and the prizes in this round; how many hands.
 #[repr(C)]
-#[derive(Drop)]
+#[derive(Clone, Copy)]
 pub struct SeatShown {
     pub purse: u64,
     pub stake: u32,

@@ -1,5 +1,7 @@
 // The decisions that draw cards: draw, double and split, each in a module of its own, and what draw and double share.
 // Each call gives back the number and the table that its definition says (crate decisions_spec), for every table that is not broken.
+#![tactic(auto)]
+
 mod card;
 pub mod double;
 pub mod draw;

@@ -1,4 +1,6 @@
 // The drawing that programs share, from reading functions alone: the dealer's screen, a guest's display, the cashier's line.
+#![tactic(auto)]
+
 use call::At;
 use cards::hand::Hand;
 use dealer_screen::lights::{Lights, SeatLights};

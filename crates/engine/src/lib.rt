@@ -1,5 +1,7 @@
 // One step over all eighteen calls: it takes the enum apart. Beside the call the caller lends the order that a load reads, which every other call ignores, and
 // two arrays for the names and nets of the pay lines, into which only an accepted close writes.
+#![tactic(auto)]
+
 mod named;
 mod scores;
 mod whole;

@@ -1,4 +1,6 @@
 // The faces left of a table in a dealt round (request 2.10), as `bank_chances::chances` takes them: the cards that nobody has seen.
+#![tactic(auto)]
+
 mod counts;
 
 ghost use Rattle.std.specs.Prelude.{◌≡◌, true, false, replicate};
@@ -14,7 +16,7 @@ use table::Table;
 
 // The number, 0 where it is accepted; the up card; and how often each face is left.
 #[repr(C)]
-#[derive(Drop)]
+#[derive(Clone, Copy)]
 pub struct FacesLeft {
     pub number: u8,
     pub up: u8,

@@ -6,7 +6,7 @@ ghost use Rattle.file_writer.specs.Aids.Parts.{house_parts, guest_parts, side_pa
 use call::{At, Call};
 
 // What a call has in the file: its kind, its seat, its position, its amount; and whether a side stake's kind is one of the four.
-#[derive(Drop)]
+#[derive(Clone, Copy)]
 pub struct Parts {
     pub known: bool,
     pub kind: u16,

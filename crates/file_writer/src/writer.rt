@@ -14,7 +14,7 @@ use card_count::valid_order::valid_order;
 use options::{Options, in_range};
 
 #[repr(C)]
-#[derive(Drop)]
+#[derive(Clone, Copy)]
 pub struct Writer {
     pub options: Options,
     // The calls of the open block, below 50, and their bytes.
@@ -24,7 +24,7 @@ pub struct Writer {
 
 // What the writer gives: a number; how many blocks are now complete, none, one or two, and these; the writer to go on with.
 #[repr(C)]
-#[derive(Drop)]
+#[derive(Clone, Copy)]
 pub struct Written {
     pub number: u8,
     pub blocks: u8,
@@ -35,7 +35,7 @@ pub struct Written {
 
 // What it gives at the end: one block or none.
 #[repr(C)]
-#[derive(Drop)]
+#[derive(Clone, Copy)]
 pub struct Last {
     pub blocks: u8,
     pub block: [u8; 512],

@@ -1,4 +1,6 @@
 // Guests who come and go, rehearsed (request 2.13). The file stdin is the script, a row for each call, arrival or leaving; the expected lines, in the file stdout, are worked out by hand.
+#![tactic(auto)]
+
 mod calls;
 mod lines;
 mod room;

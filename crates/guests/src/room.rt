@@ -5,7 +5,7 @@ use host_spec::{GuestCard, Hosted, Tally};
 use stage::{Stage, first_stage};
 use table::Table;
 
-#[derive(Drop)]
+#[derive(Clone, Copy)]
 pub(crate) struct Room {
     pub(crate) stage: Stage,
     pub(crate) hosted: Hosted,

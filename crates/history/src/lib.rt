@@ -1,1 +1,2 @@
 // What document 01's section "The history" works out from options, loaded orders and accepted calls alone. There is no code here.
+#![tactic(auto)]

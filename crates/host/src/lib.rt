@@ -1,5 +1,7 @@
 // Guests who come and go (request 2.13), above the engine: a table with guest cards at its positions, each with its tally; one step over the engine's calls, arrivals and leavings; and
 // what a display reads of a card. The engine's table knows nothing of them.
+#![tactic(auto)]
+
 pub mod arrive;
 mod counting;
 pub mod leave;

@@ -7,14 +7,14 @@ use answer::reply::{Answer, plain_reply};
 use host_spec::Hosted;
 
 // The number, 0 where it is accepted, and the hosted table after it.
-#[derive(Drop)]
+#[derive(Clone, Copy)]
 pub struct HostOutcome {
     pub number: u8,
     pub hosted: Hosted,
 }
 
 // The answer and the next hosted table; the pay lines of close stand in the arrays that the caller lends.
-#[derive(Drop)]
+#[derive(Clone, Copy)]
 pub struct HostReply {
     pub answer: Answer,
     pub hosted: Hosted,

@@ -7,7 +7,7 @@ use crate::sound::host_broken;
 use host_spec::{GuestCard, Hosted};
 
 // Whether a card sits there, which, and its tally: rounds closed, money wagered, net with prizes.
-#[derive(Drop)]
+#[derive(Clone, Copy)]
 pub struct CardShown {
     pub here: bool,
     pub card: u64,

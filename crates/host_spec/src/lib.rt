@@ -1,9 +1,11 @@
 // Guests who come and go (request 2.13): the cards of guests at the positions of a table, each with its tally, beside the table. There is no code here.
+#![tactic(auto)]
+
 use call::{At, Call};
 use table::Table;
 
 // What a host keeps for a card since it arrived: rounds closed, money wagered, and money that came back, prizes among it; the net is the difference.
-#[derive(Drop)]
+#[derive(Clone, Copy)]
 pub struct Tally {
     pub rounds: u32,
     pub wagered: u64,
@@ -11,7 +13,7 @@ pub struct Tally {
 }
 
 // A position: 1 where a card sits there, else 0; the card, any number; its tally.
-#[derive(Drop)]
+#[derive(Clone, Copy)]
 pub struct GuestCard {
     pub here: u8,
     pub card: u64,
@@ -19,14 +21,14 @@ pub struct GuestCard {
 }
 
 // A table with the cards of its 27 positions, by seat and position. The engine's table knows nothing of them.
-#[derive(Drop)]
+#[derive(Clone, Copy)]
 pub struct Hosted {
     pub table: Table,
     pub cards: [GuestCard; 27],
 }
 
 // A call of the table, or a card that arrives at a position, or one that leaves, named by itself alone.
-#[derive(Drop)]
+#[derive(Clone, Copy)]
 pub enum HostCall {
     Play(Call),
     Arrive(At, u64),

@@ -1,5 +1,7 @@
 // A round that takes as many calls as any can (request 2.14): nine seats of three guests against an ace, in the second deal of a shoe without later burn. 27 insurances, nine stands, and the bank
 // takes one card: the accepted calls from deal to close are the cards drawn in it and 18 more. A refused call is written.
+#![tactic(auto)]
+
 ghost use Rattle.std.specs.Prelude.{◌≤◌};
 
 use call::pay_line::LINES;
@@ -12,7 +14,7 @@ use script::orders::{Order, begun_order};
 use table::Table;
 
 // The table, and how many calls it has accepted.
-#[derive(Drop)]
+#[derive(Clone, Copy)]
 struct Play {
     table: Table,
     calls: u64,

@@ -17,7 +17,7 @@ use table::{Seat, Table};
 pub(crate) const MOST_MONEY: u64 = 1000000000000000;
 
 // The stakes of guests, what they have laid, their prizes, what the tray must hold for them, and what is in their purses.
-#[derive(Drop)]
+#[derive(Clone, Copy)]
 pub struct Sums {
     pub stakes: u64,
     pub laid: u64,

@@ -1,4 +1,6 @@
 // House options, given at opening (document 01): the struct, its ranges and the test that decides them.
+#![tactic(auto)]
+
 pub mod decider;
 pub mod device;
 pub mod permitted;
@@ -11,7 +13,7 @@ use crate::device::{is_box, is_shoe};
 
 // The options in document 01's order. Every value is taken: `in_range` says whether a table may open with them.
 #[repr(C)]
-#[derive(Drop)]
+#[derive(Clone, Copy)]
 pub struct Options {
     // Seats, 6 to 9.
     pub seats: u8,
@@ -48,7 +50,7 @@ pub struct Options {
 }
 
 // A value with its least and its largest permitted value.
-#[derive(Drop)]
+#[derive(Clone, Copy)]
 pub struct Bounds {
     pub value: u32,
     pub least: u32,

@@ -6,7 +6,7 @@ ghost use Rattle.payment.specs.Bank.{must_draw, score_of};
 use cards::hand::Hand;
 
 // The bank's total, and whether its two cards are a natural.
-#[derive(Drop)]
+#[derive(Clone, Copy)]
 pub struct Score {
     pub total: u32,
     pub natural: bool,

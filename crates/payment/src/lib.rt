@@ -1,4 +1,6 @@
 // How the bank stands and what a hand, an insurance, a side stake and a prize pay (document 01, "Payment"), and the cover that the tray must hold for it.
+#![tactic(auto)]
+
 pub mod bank;
 pub mod cover;
 pub mod hand_pay;

@@ -1,5 +1,5 @@
 // Pay as two numbers: what lay there, and what goes back to the purse.
-#[derive(Drop)]
+#[derive(Clone, Copy)]
 pub struct Pay {
     pub laid: u64,
     pub back: u64,

@@ -1,4 +1,6 @@
 // Writes the session file (request 2.9) of the marked session of document 01: each call is played, and the accepted ones are told to the writer.
+#![tactic(auto)]
+
 mod house;
 
 use call::pay_line::LINES;
@@ -10,7 +12,7 @@ use libc::STDOUT_FILENO;
 use table::Table;
 
 // A table and the writer of its session.
-#[derive(Drop)]
+#[derive(Clone, Copy)]
 pub struct Session {
     pub table: Table,
     pub writer: Writer,

@@ -1,4 +1,6 @@
 // Plays a session file (request 2.9) that stands on the input: a line for each call, with the columns of the marked session. A refused file gives its number and nothing else.
+#![tactic(auto)]
+
 mod rows;
 
 use libc::{STDIN_FILENO, STDOUT_FILENO};

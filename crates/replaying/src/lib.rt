@@ -1,5 +1,7 @@
 // Playing a session file (request 2.9): the whole file is checked first, then its calls are played one after another. An accepted call leaves a whole table whole, so broken is not asked
 // again. Calls that the table refuses leave it as it was.
+#![tactic(auto)]
+
 ghost use Rattle.std.specs.Prelude.{◌≡◌};
 ghost use Rattle.answer.specs.Reply.{given_by, given_of};
 ghost use Rattle.engine.specs.Step.{step as step_by};
@@ -48,7 +50,7 @@ pub fn play_call(
 }
 
 // The table after the call at a place, whether there is one, and the place behind it.
-#[derive(Drop)]
+#[derive(Clone, Copy)]
 pub struct Turn {
     pub found: bool,
     pub table: Table,

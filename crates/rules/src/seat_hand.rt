@@ -25,7 +25,7 @@ pub const BY_EVEN: u8 = 4;
 pub const BY_FIVE: u8 = 5;
 
 #[repr(C)]
-#[derive(Drop)]
+#[derive(Clone, Copy)]
 pub struct SeatHand {
     pub hand: Hand,
     pub origin: u8,
@@ -34,7 +34,7 @@ pub struct SeatHand {
 
 // Up to four hands by place, and how many there are.
 #[repr(C)]
-#[derive(Drop)]
+#[derive(Clone, Copy)]
 pub struct SeatHands {
     pub places: [SeatHand; 4],
     pub many: u8,

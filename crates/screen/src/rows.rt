@@ -12,7 +12,7 @@ use stage::{Stage, first_stage};
 use table::Table;
 
 // What is kept from row to row: the stage, and whether it is drawn.
-#[derive(Drop)]
+#[derive(Clone, Copy)]
 struct Show {
     pub stage: Stage,
     pub quiet: bool,

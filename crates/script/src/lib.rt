@@ -1,4 +1,6 @@
 // What the programs read of a script: its lines, numbers and cards. Every text is taken.
+#![tactic(auto)]
+
 pub mod named;
 pub mod orders;
 

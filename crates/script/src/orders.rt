@@ -4,7 +4,7 @@ ghost use Rattle.lists.specs.Sum.{count_of};
 ghost use Rattle.script.specs.Begun.{empty_order, placed, placed_all, placed_face, begun};
 
 // Cards together with their number, in the array that a load reads.
-#[derive(Drop)]
+#[derive(Clone, Copy)]
 pub struct Order {
     pub cards: [u8; 416],
     pub count: usize,

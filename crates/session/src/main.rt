@@ -1,4 +1,6 @@
 // The marked session of document 01. Header and call names are fixed byte strings; every figure is read from the answer and the table that a step gave.
+#![tactic(auto)]
+
 use call::pay_line::LINES;
 use call::{At, Call};
 use cashier::opening::opening;

@@ -13,7 +13,7 @@ use options::Options;
 use state::empty::no_options;
 
 // A call, with the place of the order that is lent beside it and its number of cards, and the place behind the call. Where none is found the reader stays.
-#[derive(Drop)]
+#[derive(Clone, Copy)]
 pub struct Handed {
     pub found: bool,
     pub call: Call,
@@ -149,7 +149,7 @@ pub fn call_at(file: &[u8], at: usize) -> Handed
 }
 
 // The reader: the lent file and the place of the next call.
-#[derive(Drop)]
+#[derive(Clone, Copy)]
 pub struct Reader<'a> {
     pub file: &'a [u8],
     pub at: usize,

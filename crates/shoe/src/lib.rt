@@ -1,4 +1,6 @@
 // Cards of the shoe (document 01, "The seventeen calls"): those ahead, so many drawn, all drawn ones as discards, and the new shoe of a load.
+#![tactic(auto)]
+
 ghost use Rattle.std.specs.Prelude.{◌≡◌, ◌+◌, ◌≤◌, length, get_or};
 ghost use Rattle.table.specs.Shoe.{new_shoe, with_drawn, discard_drawn};
 ghost use Rattle.shoe.specs.Aids.Empty.{no_cards};

@@ -1,4 +1,6 @@
 // What a script plays: its orders, openings and calls, what is kept from row to row, and how the programs that read scripts write cards and figures.
+#![tactic(auto)]
+
 pub mod calls;
 pub mod houses;
 pub mod write;
@@ -10,7 +12,7 @@ use state::empty::no_options;
 use table::Table;
 
 // The table, the order that the next opening or load is lent, and what the dealer called aloud at the last call.
-#[derive(Drop)]
+#[derive(Clone, Copy)]
 pub struct Stage {
     pub table: Table,
     pub order: Order,

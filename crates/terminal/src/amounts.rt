@@ -5,14 +5,14 @@ use call::At;
 use script::number;
 
 // The number that a word writes, where it writes one.
-#[derive(Drop)]
+#[derive(Clone, Copy)]
 pub(crate) struct Amount {
     pub good: bool,
     pub value: u64,
 }
 
 // The guest that a word names, where it names one.
-#[derive(Drop)]
+#[derive(Clone, Copy)]
 pub(crate) struct Guest {
     pub good: bool,
     pub at: At,

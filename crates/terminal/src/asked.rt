@@ -5,7 +5,7 @@ use call::At;
 use stage::write::words;
 
 // Whether it is all there, and what it is; 0 stands where nothing is asked.
-#[derive(Drop)]
+#[derive(Clone, Copy)]
 pub(crate) struct Asked {
     pub good: bool,
     pub at: At,

@@ -4,7 +4,7 @@
 pub(crate) const ROOM: usize = 256;
 
 // The letters so far and how many they are; whether there were more than the room holds.
-#[derive(Drop)]
+#[derive(Clone, Copy)]
 pub(crate) struct Carry {
     pub letters: [u8; ROOM],
     pub count: usize,

@@ -17,7 +17,7 @@ use table::Table;
 pub(crate) const ROOM: usize = 1048576;
 
 // The table and its house; how the next order is made; the writer, how many bytes of the file are complete and whether some had no room; the guest who called last; whether it is over.
-#[derive(Drop)]
+#[derive(Clone, Copy)]
 pub(crate) struct Desk {
     pub table: Table,
     pub house: Options,
@@ -30,7 +30,7 @@ pub(crate) struct Desk {
 }
 
 // The answer of a call, and the desk after it.
-#[derive(Drop)]
+#[derive(Clone, Copy)]
 pub(crate) struct Turn {
     pub answer: Answer,
     pub desk: Desk,

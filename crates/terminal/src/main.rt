@@ -1,5 +1,7 @@
 // A table in the terminal: whoever sits there types calls, a line each, and sees after each the dealer's screen, the display of the guest who called and the cashier's line. The same lines may come
 // through a pipe (file stdin), and are then written before their answers, as a terminal shows them.
+#![tactic(auto)]
+
 mod amounts;
 mod answers;
 mod asked;

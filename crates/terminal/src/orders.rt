@@ -5,7 +5,7 @@ use script::named::{cards_named, many_named};
 use script::orders::{Order, begun_order, lent};
 
 // How orders are made: from cards that come first where they were given, else by the seed.
-#[derive(Drop)]
+#[derive(Clone, Copy)]
 pub(crate) struct Source {
     pub given: bool,
     pub first: [u8; 64],

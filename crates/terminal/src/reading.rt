@@ -10,7 +10,7 @@ use script::end_of;
 use stage::write::words;
 
 // The desk, the line so far, and whether a terminal shows what is typed.
-#[derive(Drop)]
+#[derive(Clone, Copy)]
 struct Play {
     pub desk: Desk,
     pub line: Carry,

@@ -1,5 +1,7 @@
 // Every way to play one seat (request 2.11): how many lists of decisions a just dealt table allows, and the list at a place of their order with its sum. It is no call: it takes
 // a table by value, tries the decisions on copies, and hands no table back.
+#![tactic(auto)]
+
 mod count;
 mod decide;
 mod numbers;
@@ -18,7 +20,7 @@ use table::Table;
 
 // The number, 0 where there is a count.
 #[repr(C)]
-#[derive(Drop)]
+#[derive(Clone, Copy)]
 pub struct WaysCount {
     pub number: u8,
     pub count: usize,
@@ -26,7 +28,7 @@ pub struct WaysCount {
 
 // The first `length` of the decisions, each by the kind of its call: 8 stand, 9 draw, 10 double, 11 split, 13 even, 14 five; and what the guest gains or loses by them.
 #[repr(C)]
-#[derive(Drop)]
+#[derive(Clone, Copy)]
 pub struct Way {
     pub number: u8,
     pub found: bool,

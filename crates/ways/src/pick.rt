@@ -12,7 +12,7 @@ use call::At;
 use table::Table;
 
 // A decision, the table after it, and the place that is left among the lists from there.
-#[derive(Drop)]
+#[derive(Clone, Copy)]
 pub(crate) struct Onward {
     pub kind: u8,
     pub table: Table,
@@ -20,7 +20,7 @@ pub(crate) struct Onward {
 }
 
 // The list, and the table where it ends.
-#[derive(Drop)]
+#[derive(Clone, Copy)]
 pub(crate) struct Picked {
     pub table: Table,
     pub length: usize,

@@ -1,4 +1,6 @@
 // The fixed workload that the bench programs play: its houses and their orders, which call comes next, a checksum of what was played, and how many calls are asked for.
+#![tactic(auto)]
+
 pub mod checksum;
 pub mod house;
 pub mod plan;

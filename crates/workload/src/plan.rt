@@ -33,7 +33,7 @@ const ROUNDS: u8 = 40;
 
 // The stage and the seat it has come to; decks and round of the session; whose turn it is, 9 where it is nobody's; whether the last decision was
 // refused; a number that decides.
-#[derive(Drop)]
+#[derive(Clone, Copy)]
 pub struct Plan {
     pub stage: u8,
     pub seat: u8,
