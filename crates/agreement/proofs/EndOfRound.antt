@@ -55,15 +55,15 @@ module _ (o : Options) (opening : List ℕ) (es : List Entry) (i : ℕ) (e : Ent
   unfolding hands_after
   end-seat s empty none purses =
       record {
-        hands_are = empty ∙ sym (simp (not_deal e h.among refl, h.is-end));
+        hands_are = empty ∙ sym (simp (not_deal e h.among refl, h.is_end_lem));
         first_is = λ some. absurd (omega (arith, ap length empty));
         guests = λ p.
             record {
-              stake_is = (none p).no-stake ∙ sym (simp h.is-end);
-              insurance_is = (none p).no-insurance ∙ sym (simp h.is-end);
-              sides_are = λ k l. (none p).no_sides k l ∙ sym (simp h.is-end);
-              laid-is = nothing-laid (guest_at s p) (none p) ∙ sym (simp h.is-end);
-              prizes_are = unstaked_prizes o (guest_at s p) (none p).no-stake ∙ sym (simp h.is-end);
+              stake_is = (none p).no_stake_lem ∙ sym (simp h.is_end_lem);
+              insurance_is = (none p).no_insurance ∙ sym (simp h.is_end_lem);
+              sides_are = λ k l. (none p).no_sides k l ∙ sym (simp h.is_end_lem);
+              laid_is = nothing-laid (guest_at s p) (none p) ∙ sym (simp h.is_end_lem);
+              prizes_are = unstaked_prizes o (guest_at s p) (none p).no_stake_lem ∙ sym (simp h.is_end_lem);
               purse_is = purses p;
             };
       }
@@ -77,14 +77,14 @@ module _ (opening : List ℕ) (es : List Entry) (t : Table) (e : Entry) (tray : 
   -- the history's cards after the call
   cards-after : EndCall → (c : Cards) → c ≡ cards_of_history t.options opening es → cards_of_history t.options opening (e ∷ es) ≡ make_cards c.order c.fresh (c.taken + k) []
   unfolding cards_after bank_after
-  cards-after call c same = simp (not_load e call.ends.among refl, not_deal e call.ends.among refl, call.ends.is-end, call.takes, same)
+  cards-after call c same = simp (not_load e call.ends.among refl, not_deal e call.ends.among refl, call.ends.is_end_lem, call.takes, same)
 
   -- the seat of any number, one that the table has or not
   seat-after : Shaped t → RoundEnd t tray purse-of shoe k → EndCall → (i : ℕ) → SeatAgrees t.options opening (e ∷ es) i (seat_at (round_ended t tray purse-of shoe) i)
   seat-after shaped end call i = go (dec_le (length t.seats) i)
     where
       nothing : (s : Seat) → s.money ≡ missing_money → purse-of s ≡ 0
-      nothing s none = let (empty, bets) = no_money s none in end.nothing-stays s empty bets
+      nothing s none = let (empty, bets) = no_money s none in end.nothing_stays s empty bets
 
       go : Dec (length t.seats ≤ i) → SeatAgrees t.options opening (e ∷ es) i (seat_at (round_ended t tray purse-of shoe) i)
       go (yes beyond) =
@@ -99,7 +99,7 @@ module _ (opening : List ℕ) (es : List Entry) (t : Table) (e : Entry) (tray : 
           (end-seat t.options opening es i e call.ends (cleared purse-of (seat_at t i)) refl (cleared-bets purse-of (seat_at t i))
           (λ p.
           ap pos (cleared-purse purse-of (seat_at t i) p (λ far.
-          nothing (guest_of t i p) (guest_beyond (seat_at t i) p (omega (arith, (shaped.seats i (omega (arith, shaped.nine-seats))).two-others)))))
+          nothing (guest_of t i p) (guest_beyond (seat_at t i) p (omega (arith, (shaped.seats i (omega (arith, shaped.nine_seats_lem))).two_others)))))
           ∙ call.purses i p))
 
   pub end_call : Good opening es t → RoundEnd t tray purse-of shoe k → EndCall → Good opening (e ∷ es) (round_ended t tray purse-of shoe)
@@ -118,15 +118,15 @@ module _ (opening : List ℕ) (es : List Entry) (t : Table) (e : Entry) (tray : 
               cards =
                   subst (λ (x : Cards). CardsAgree x (round_ended t tray purse-of shoe)) (sym now)
                   (record {
-                    order = ap (take (52 * t.options.decks)) end.same-order ∙ a.cards.order;
-                    taken = end.more-drawn ∙ ap (λ (n : ℕ). n + k) a.cards.taken;
-                    fresh = still_fresh t.options t.shoe shoe k end.same-begun end.more-drawn end.drawn-before ∙ a.cards.fresh;
+                    order = ap (take (52 * t.options.decks)) end.same_order ∙ a.cards.order;
+                    taken = end.more_drawn ∙ ap (λ (n : ℕ). n + k) a.cards.taken;
+                    fresh = still_fresh t.options t.shoe shoe k end.same_begun end.more_drawn end.drawn_before ∙ a.cards.fresh;
                     bank = refl;
                   });
-              dealt = sym (simp q.is-end);
+              dealt = sym (simp q.is_end_lem);
               seats = seat-after g.shaped end call;
-              drew = undecided.0 ∙ sym (simp q.is-end);
-              decided = undecided.1 ∙ sym (simp q.is-end);
+              drew = undecided.0 ∙ sym (simp q.is_end_lem);
+              decided = undecided.1 ∙ sym (simp q.is_end_lem);
               balance =
                   simp (not_fill e q.among refl, not_buy e q.among refl, not_credit e q.among refl, not_cash e q.among refl)
                   (omega (arith, end_money t tray purse-of shoe k g.shaped g.sound end, a.balance));

@@ -49,45 +49,45 @@ pub record GuestCall (es : List Entry) (t : Table) (e : Entry) (j p : ℕ) (m : 
   pub insurance_is : m.insurance ≡ insurance_in (e ∷ es) j p
   pub sides_are : (k : ℕ) → k < 4 → get_or m.sides k 0 ≡ side_in (e ∷ es) j p (k + 1)
   pub lays_more : laid (with_money (seat_at t j) m) ≡ laid (guest_of t j p) + lays j p (stake_in es j p) e
-  pub same-prizes : prizes t.options (with_money (seat_at t j) m) ≡ prizes t.options (guest_of t j p)
+  pub same_prizes : prizes t.options (with_money (seat_at t j) m) ≡ prizes t.options (guest_of t j p)
   pub buys : cond (is_buy e) (amount_of e) 0 ≡ came
   pub cashes : cond (is_cash e) (amount_of e) 0 ≡ went
 
 module _ (opening : List ℕ) (es : List Entry) (t : Table) (e : Entry) (j p : ℕ) (m : Money) (came went : ℕ) (g : Good opening es t) (change : GuestChange t j p m came went) (call : GuestCall es t e j p m came went) where
   of : OfMoney e j p
-  of = call.of-money
+  of = call.of_money
 
   abbrev now : Seat
   now = with_guest (seat_at t j) p m
 
   undrawn : (is_draw e ≡ false) × (is_double e ≡ false) × (is_split e ≡ false)
-  undrawn = not_drawing e (no_drawing e of.not-decision)
+  undrawn = not_drawing e (no_drawing e of.not_decision)
 
   same-hands : (i : ℕ) → hands_in t.options opening (e ∷ es) i ≡ hands_in t.options opening es i
-  same-hands i = hands_stay t.options opening es i e of.not-deal of.not_end of.not-decision
+  same-hands i = hands_stay t.options opening es i e of.not_deal of.not_end of.not_decision
 
   same_first : (i : ℕ) → first_in t.options opening (e ∷ es) i ≡ first_in t.options opening es i
-  same_first i = first_stay t.options opening es i e of.not-deal of.not_end (simp undrawn.2)
+  same_first i = first_stay t.options opening es i e of.not_deal of.not_end (simp undrawn.2)
 
   -- the guest, as if alone at the seat
   alone : GuestAgrees t.options opening (e ∷ es) j p (with_money (seat_at t j) m)
   alone =
       let a = (g.agrees.seats j).guests p in
-      let undrawn-prize = prize-undrawn t.options opening es j p e (no_drawing e of.not-decision) in
-      let by : is_by j p e ≡ true = simp (eq-eqb (seat e.call) j of.seat-is, eq-eqb (position e.call) p of.position-is) in
+      let undrawn-prize = prize-undrawn t.options opening es j p e (no_drawing e of.not_decision) in
+      let by : is_by j p e ≡ true = simp (eq-eqb (seat e.call) j of.seat_is, eq-eqb (position e.call) p of.position_is) in
       record {
-        stake_is = call.stake-is;
-        insurance_is = call.insurance-is;
-        sides_are = call.sides-are;
-        laid-is = simp of.not_end (omega (arith, a.laid-is, call.lays_more));
-        prizes_are = simp of.not_end (omega (arith, a.prizes-are, call.same-prizes, undrawn-prize));
+        stake_is = call.stake_is;
+        insurance_is = call.insurance_is;
+        sides_are = call.sides_are;
+        laid_is = simp of.not_end (omega (arith, a.laid_is, call.lays_more));
+        prizes_are = simp of.not_end (omega (arith, a.prizes_are, call.same_prizes, undrawn-prize));
         purse_is =
-            purse_moves t.options opening es j p e of.not_end (purse (guest_of t j p)) m.purse a.purse-is
+            purse_moves t.options opening es j p e of.not_end (purse (guest_of t j p)) m.purse a.purse_is
             (simp (by, and-true) (omega (arith, call.buys, call.cashes, change.paid, call.lays_more, undrawn-prize)));
       }
 
   two : length (seat_at t j).others ≡ 2
-  two = (g.shaped.seats j (omega (arith, (in_range_facts t.options g.sound.options).seats-most, change.within))).two-others
+  two = (g.shaped.seats j (omega (arith, (in_range_facts t.options g.sound.options).seats_most, change.within))).two_others
 
   -- each guest of the seat
   guest-after : (q : ℕ) → Dec (q ≡ p) → GuestAgrees t.options opening (e ∷ es) j q (guest_at now q)
@@ -96,17 +96,17 @@ module _ (opening : List ℕ) (es : List Entry) (t : Table) (e : Entry) (j p : �
       (guest-alike t.options opening (e ∷ es) j p (guest_at now p) (with_money (seat_at t j) m) (put_here (seat_at t j) p m two change.position)
       (at-put laid of_laid (seat_at t j) p m two change.position) (at-put (prizes t.options) (of_prizes t.options) (seat_at t j) p m two change.position) alone)
   guest-after q (no other) =
-      let not-by : is_by j q e ≡ false = simp (ne_eqb (position e.call) q (λ same. other (omega (arith, of.position-is))), and-false) in
+      let not-by : is_by j q e ≡ false = simp (ne_eqb (position e.call) q (λ same. other (omega (arith, of.position_is))), and-false) in
       guest-alike t.options opening (e ∷ es) j q (guest_at now q) (guest_of t j q) (put_other (seat_at t j) p q m other)
       (at_other laid of_laid (seat_at t j) p q m other) (at_other (prizes t.options) (of_prizes t.options) (seat_at t j) p q m other)
-      (untouched_guest t.options opening es j q e (other_guest t.options opening es j q e (no_drawing e of.not-decision) of.not_end not-by) (guest_of t j q) ((g.agrees.seats j).guests q))
+      (untouched_guest t.options opening es j q e (other_guest t.options opening es j q e (no_drawing e of.not_decision) of.not_end not-by) (guest_of t j q) ((g.agrees.seats j).guests q))
 
   seat-after : SeatAgrees t.options opening (e ∷ es) j now
   seat-after =
       let a = g.agrees.seats j in
       record {
-        hands_are = rw (put-hands (seat_at t j) p m) a.hands-are ∙ sym (same-hands j);
-        first_is = rw (put-hands (seat_at t j) p m, put_first (seat_at t j) p m) (λ some. a.first-is some ∙ sym (same_first j));
+        hands_are = rw (put-hands (seat_at t j) p m) a.hands_are ∙ sym (same-hands j);
+        first_is = rw (put-hands (seat_at t j) p m, put_first (seat_at t j) p m) (λ some. a.first_is some ∙ sym (same_first j));
         guests = λ q. guest-after q (ℕ_discrete q p);
       }
 
@@ -118,17 +118,17 @@ module _ (opening : List ℕ) (es : List Entry) (t : Table) (e : Entry) (j p : �
       one_call opening es t e j t.tray now t.shoe 0 came went g moves
       (record {
         not_end = of.not_end;
-        not_deal = of.not-deal;
-        not_load = of.not-load;
-        of_other = λ i other. ne_eqb (seat e.call) i (λ same. other (omega (arith, of.seat-is)));
-        takes = simp (of.not-deal, undrawn.0, undrawn.1, undrawn.2, close);
-        same-order = refl;
+        not_deal = of.not_deal;
+        not_load = of.not_load;
+        of_other = λ i other. ne_eqb (seat e.call) i (λ same. other (omega (arith, of.seat_is)));
+        takes = simp (of.not_deal, undrawn.0, undrawn.1, undrawn.2, close);
+        same_order = refl;
         more_drawn = omega arith;
         others = λ i other. same-hands i;
         first-others = λ i other. same_first i;
-        events = rw (put-hands (seat_at t j) p m) (no_event e (hands (seat_at t j)) of.not-decision);
+        events = rw (put-hands (seat_at t j) p m) (no_event e (hands (seat_at t j)) of.not_decision);
         seat = seat-after;
         money =
-            simp (of.not-fill, of.not-credit)
+            simp (of.not_fill, of.not_credit)
             (omega (arith, change_money t j t.tray now t.shoe 0 came went g.shaped g.sound moves, call.buys, call.cashes));
       })

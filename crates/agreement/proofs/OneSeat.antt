@@ -35,7 +35,7 @@ module _ (opening : List ℕ) (es : List Entry) (t : Table) (e : Entry) (j tray 
     pub not_load : is_load e ≡ false
     pub of_other : (i : ℕ) → (i ≡ j → ⊥) → is_of i e ≡ false
     pub takes : call_takes t.options (staked_below es t.options.seats) (cards_of_history t.options opening es) e ≡ k
-    pub same-order : shoe.order ≡ t.shoe.order
+    pub same_order : shoe.order ≡ t.shoe.order
     pub more_drawn : shoe.drawn ≡ t.shoe.drawn + k
     pub others : (i : ℕ) → (i ≡ j → ⊥) → hands_in t.options opening (e ∷ es) i ≡ hands_in t.options opening es i
     pub first-others : (i : ℕ) → (i ≡ j → ⊥) → first_in t.options opening (e ∷ es) i ≡ first_in t.options opening es i
@@ -47,7 +47,7 @@ module _ (opening : List ℕ) (es : List Entry) (t : Table) (e : Entry) (j tray 
   cards-after : SeatCall → (c : Cards) → c ≡ cards_of_history t.options opening es
       → cards_of_history t.options opening (e ∷ es) ≡ make_cards c.order c.fresh (c.taken + k) c.bank
   unfolding cards_after bank_after
-  cards-after call c same = simp (call.not-load, call.not-deal, call.not_end, call.takes, same)
+  cards-after call c same = simp (call.not_load, call.not_deal, call.not_end, call.takes, same)
 
   one-seat : length t.seats ≡ 9 → j < 9 → burns_first t.options shoe ≡ burns_first t.options t.shoe → Agrees opening es t → SeatCall → Agrees opening (e ∷ es) after
   one-seat nine within same-burn a call =
@@ -58,12 +58,12 @@ module _ (opening : List ℕ) (es : List Entry) (t : Table) (e : Entry) (j tray 
         cards =
             subst (λ (x : Cards). CardsAgree x after) (sym now)
             (record {
-              order = ap (take (52 * t.options.decks)) call.same-order ∙ a.cards.order;
-              taken = call.more-drawn ∙ ap (λ (n : ℕ). n + k) a.cards.taken;
+              order = ap (take (52 * t.options.decks)) call.same_order ∙ a.cards.order;
+              taken = call.more_drawn ∙ ap (λ (n : ℕ). n + k) a.cards.taken;
               fresh = same-burn ∙ a.cards.fresh;
               bank = a.cards.bank;
             });
-        dealt = a.dealt ∙ sym (simp (call.not_end, call.not-deal));
+        dealt = a.dealt ∙ sym (simp (call.not_end, call.not_deal));
         seats = λ i. each i (ℕ_discrete i j);
         drew = drew-now ∙ ap (λ (b : Bool). is_drawing e || b) a.drew ∙ sym (simp call.not_end);
         decided = decided-now ∙ ap (λ (b : Bool). is_decision e || b) a.decided ∙ sym (simp call.not_end);
@@ -81,12 +81,12 @@ module _ (opening : List ℕ) (es : List Entry) (t : Table) (e : Entry) (j tray 
   -- such a call keeps the table good
   pub one_call : (came went : ℕ) → Good opening es t → SeatChange t j tray s shoe k came went → SeatCall → Good opening (e ∷ es) after
   one_call came went g change call =
-      let most = (in_range_facts t.options g.sound.options).seats-most in
+      let most = (in_range_facts t.options g.sound.options).seats_most in
       record {
         shaped = change_shaped t j tray s shoe k came went g.shaped g.sound change;
         sound = change_sound t j tray s shoe k came went g.shaped g.sound change;
         agrees =
-            one-seat g.shaped.nine-seats (omega (arith, change.within))
-            (still_fresh t.options t.shoe shoe k change.same-begun change.more-drawn change.drawn-before)
+            one-seat g.shaped.nine_seats_lem (omega (arith, change.within))
+            (still_fresh t.options t.shoe shoe k change.same_begun change.more_drawn change.drawn_before)
             g.agrees call;
       }

@@ -37,14 +37,14 @@ first_stay o opening es i e no_deal no_end none = simp (no_deal, no_end, none)
 -- what a guest holds, and so what agrees, is the same of two with the same money, laid and won
 pub guest-alike : (o : Options) (opening : List ℕ) (es : List Entry) (i p : ℕ) (r s : Seat) → r.money ≡ s.money → laid r ≡ laid s → prizes o r ≡ prizes o s
     → GuestAgrees o opening es i p s → GuestAgrees o opening es i p r
-guest-alike o opening es i p r s money same-laid same-prizes a =
+guest-alike o opening es i p r s money same-laid same_prizes a =
     record {
-      stake_is = ap (λ (m : Money). m.stake) money ∙ a.stake-is;
-      insurance_is = ap (λ (m : Money). m.insurance) money ∙ a.insurance-is;
-      sides_are = λ k h. ap (λ (m : Money). get_or m.sides k 0) money ∙ a.sides-are k h;
-      laid-is = same-laid ∙ a.laid-is;
-      prizes_are = same-prizes ∙ a.prizes-are;
-      purse_is = ap (λ (m : Money). pos m.purse) money ∙ a.purse-is;
+      stake_is = ap (λ (m : Money). m.stake) money ∙ a.stake_is;
+      insurance_is = ap (λ (m : Money). m.insurance) money ∙ a.insurance_is;
+      sides_are = λ k h. ap (λ (m : Money). get_or m.sides k 0) money ∙ a.sides_are k h;
+      laid_is = same-laid ∙ a.laid_is;
+      prizes_are = same_prizes ∙ a.prizes_are;
+      purse_is = ap (λ (m : Money). pos m.purse) money ∙ a.purse_is;
     }
 
 -- a call that lays nothing for a guest in position p of seat i, wins nothing for it and moves no money of its own
@@ -61,19 +61,19 @@ pub record Untouched (o : Options) (opening : List ℕ) (es : List Entry) (i p :
 pub untouched_guest : (o : Options) (opening : List ℕ) (es : List Entry) (i p : ℕ) (e : Entry) → Untouched o opening es i p e → (s : Seat) → GuestAgrees o opening es i p s → GuestAgrees o opening (e ∷ es) i p s
 untouched_guest o opening es i p e u s a =
     record {
-      stake_is = a.stake-is ∙ sym (simp (u.no_end, u.no-stake));
-      insurance_is = a.insurance-is ∙ sym (simp (u.no_end, u.no-insurance));
-      sides_are = λ k h. a.sides-are k h ∙ sym (simp (u.no_end, u.no-side k h));
-      laid-is = a.laid-is ∙ sym (simp u.no_end (omega (arith, u.no-laying)));
-      prizes_are = a.prizes-are ∙ sym (simp u.no_end (omega (arith, u.no-prize)));
-      purse_is = purse_moves o opening es i p e u.no_end (purse s) (purse s) a.purse-is (simp (u.no-buy, u.no-cash) (omega (arith, u.no-laying, u.no-prize)));
+      stake_is = a.stake_is ∙ sym (simp (u.no_end, u.no_stake_lem));
+      insurance_is = a.insurance_is ∙ sym (simp (u.no_end, u.no_insurance));
+      sides_are = λ k h. a.sides_are k h ∙ sym (simp (u.no_end, u.no_side k h));
+      laid_is = a.laid_is ∙ sym (simp u.no_end (omega (arith, u.no_laying)));
+      prizes_are = a.prizes_are ∙ sym (simp u.no_end (omega (arith, u.no_prize)));
+      purse_is = purse_moves o opening es i p e u.no_end (purse s) (purse s) a.purse_is (simp (u.no_buy, u.no_cash) (omega (arith, u.no_laying, u.no_prize)));
     }
 
 -- a call that does not name the seat
 module _ (o : Options) (opening : List ℕ) (es : List Entry) (i : ℕ) (e : Entry) (no_end : is_end e ≡ false) (not-of : is_of i e ≡ false) where
-  lays-none : (p S : ℕ) → lays i p S e ≡ 0
+  lays_none : (p S : ℕ) → lays i p S e ≡ 0
   unfolding lays
-  lays-none p S = simp not-of
+  lays_none p S = simp not-of
 
   prize-none : (p : ℕ) → prize_of o opening es i p e ≡ 0
   unfolding wins
@@ -88,15 +88,15 @@ module _ (o : Options) (opening : List ℕ) (es : List Entry) (i : ℕ) (e : Ent
         no_side = λ k h. simp (not-of, and-false);
         no_buy = simp (not-of, and-false);
         no_cash = simp (not-of, and-false);
-        no_laying = lays-none p (stake_in es i p);
+        no_laying = lays_none p (stake_in es i p);
         no_prize = prize-none p;
       }
 
   pub other_seat : hands_in o opening (e ∷ es) i ≡ hands_in o opening es i → first_in o opening (e ∷ es) i ≡ first_in o opening es i → (s : Seat) → SeatAgrees o opening es i s → SeatAgrees o opening (e ∷ es) i s
   other_seat hands-other first-other s a =
       record {
-        hands_are = a.hands-are ∙ sym hands-other;
-        first_is = λ some. a.first-is some ∙ sym first-other;
+        hands_are = a.hands_are ∙ sym hands-other;
+        first_is = λ some. a.first_is some ∙ sym first-other;
         guests = λ p. untouched_guest o opening es i p e (other-guests p) (guest_at s p) (a.guests p);
       }
 
@@ -164,8 +164,8 @@ house-seat o opening es i e h s a =
     let ends-none = not_end e h refl in
     let decides-none = not_decision e h refl in
     record {
-      hands_are = a.hands-are ∙ sym (hands_stay o opening es i e (not_deal e h refl) ends-none decides-none);
-      first_is = λ some. a.first-is some ∙ sym (first_stay o opening es i e (not_deal e h refl) ends-none (simp (not_split e h refl)));
+      hands_are = a.hands_are ∙ sym (hands_stay o opening es i e (not_deal e h refl) ends-none decides-none);
+      first_is = λ some. a.first_is some ∙ sym (first_stay o opening es i e (not_deal e h refl) ends-none (simp (not_split e h refl)));
       guests = λ p. untouched_guest o opening es i p e (no_money o opening es i p e (no_drawing e decides-none) h refl (not_insure e h refl) ends-none) (guest_at s p) (a.guests p);
     }
 

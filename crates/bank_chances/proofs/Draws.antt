@@ -5,7 +5,7 @@ use Prim.Native.Nat.{ℕ, zero, suc, ◌+◌, ◌-◌, ◌*◌}
 use native.Mathlib.Omega.{arith}
 use lib.ListN.{length}
 use Rattle.lists.specs.Sum.{sum_of}
-use Rattle.lists.proofs.Sums.{sum_flat, sum-map, sum_ones}
+use Rattle.lists.proofs.Sums.{sum-flat, sum-map, sum_ones}
 use Rattle.bank_chances.specs.Draws.{first_cards, draws, falling}
 use Rattle.bank_chances.proofs.Groups.{sum_same, sum-each}
 
@@ -27,7 +27,7 @@ pub draws-sum : (f : List ℕ → ℕ) (k : ℕ) (cards : List ℕ)
     → sum_of f (draws (suc k) cards) ≡ sum_of (λ drawn. sum_of (λ draw. f (drawn.0 ∷ draw)) (draws k drawn.1)) (first_cards cards)
 unfolding draws
 draws-sum f k cards =
-    sum_flat f (λ drawn. map (λ draw. drawn.0 ∷ draw) (draws k drawn.1)) (first_cards cards)
+    sum-flat f (λ drawn. map (λ draw. drawn.0 ∷ draw) (draws k drawn.1)) (first_cards cards)
     ∙ sum_same (λ drawn. sum_of f (map (λ draw. drawn.0 ∷ draw) (draws k drawn.1))) (λ drawn. sum_of (λ draw. f (drawn.0 ∷ draw)) (draws k drawn.1))
     (λ drawn. sum-map f (λ draw. drawn.0 ∷ draw) (draws k drawn.1)) (first_cards cards)
 

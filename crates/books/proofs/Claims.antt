@@ -40,7 +40,7 @@ module _ (opening : List ℕ) (es : List Entry) (t : Table) (g : Good opening es
   no-seat-hands e i = go (dec_le 9 i)
     where
       go : Dec (9 ≤ i) → hands (seat_at t i) ≡ []
-      go (yes h) = rw (get_or-eq_default t.seats missing_seat {n = i} (omega (arith, g.shaped.nine-seats))) refl
+      go (yes h) = rw (get_or-eq_default t.seats missing_seat {n = i} (omega (arith, g.shaped.nine_seats_lem))) refl
       go (no h) = no_hands (seat_at t i) (no_hand t i (omega arith) g.sound (none-dealt e))
 
   -- the order in two: what is drawn and what is left
@@ -53,18 +53,18 @@ module _ (opening : List ℕ) (es : List Entry) (t : Table) (g : Good opening es
       let c = a.cards in
       record {
         balance = diff_is (diff_sub (diff_pos (came_in es)) (diff_pos (went_out es))) (all_money t) (omega (arith, a.balance));
-        purse_is = λ i p. ((a.seats i).guests p).purse-is;
-        layout_is = λ i p. ((a.seats i).guests p).laid-is;
-        stake_is = λ i p. ((a.seats i).guests p).stake-is;
-        insurance_is = λ i p. ((a.seats i).guests p).insurance-is;
-        sides_are = λ i p k least most. ((a.seats i).guests p).sides-are (k - 1) (omega arith) ∙ ap (side_in es i p) (back k least);
-        first_is = λ i. (a.seats i).first-is;
-        hands_are = λ i. (a.seats i).hands-are;
-        wagers_are = λ i p. ap₂ (λ (S : ℕ) (hs : List Played). map (wager S) hs) ((a.seats i).guests p).stake-is (a.seats i).hands-are;
+        purse_is = λ i p. ((a.seats i).guests p).purse_is;
+        layout_is = λ i p. ((a.seats i).guests p).laid_is;
+        stake_is = λ i p. ((a.seats i).guests p).stake_is;
+        insurance_is = λ i p. ((a.seats i).guests p).insurance_is;
+        sides_are = λ i p k least most. ((a.seats i).guests p).sides_are (k - 1) (omega arith) ∙ ap (side_in es i p) (back k least);
+        first_is = λ i. (a.seats i).first_is;
+        hands_are = λ i. (a.seats i).hands_are;
+        wagers_are = λ i p. ap₂ (λ (S : ℕ) (hs : List Played). map (wager S) hs) ((a.seats i).guests p).stake_is (a.seats i).hands_are;
         bank_is = c.bank;
         drew_is = a.drew;
         decided_is = a.decided;
-        hands_outside = λ e i. sym (a.seats i).hands-are ∙ no-seat-hands e i;
+        hands_outside = λ e i. sym (a.seats i).hands_are ∙ no-seat-hands e i;
         bank_outside = λ e. sym c.bank ∙ empty_list (bank_cards t) (omega (arith, ltb-false 0 (length (bank_cards t)) (none-dealt e)));
         shoe_is = rw (← c.taken, ← c.order) (take-append-drop t.shoe.drawn (table_order t));
         left_is = sym (cards_left_lem t g.shaped.order g.sound);

@@ -70,5 +70,5 @@ pub replayed : (t : Table) (calls : List Entry) → Replayed t calls
 replayed t calls =
     record {
       same_table = ap (run t) (kept-reverse t calls) ∙ kept_run t calls;
-      all-accepted = ap (λ (es : List Entry). accepted t es []) (kept-reverse t calls) ∙ kept_again t calls [];
+      all_accepted = ap (λ (es : List Entry). accepted t es []) (kept-reverse t calls) ∙ kept_again t calls [];
     }

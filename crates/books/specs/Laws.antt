@@ -28,4 +28,4 @@ Keeps t c order = Whole t → number t c order ≡ 0 → Whole (effect t c order
 -- Playing only the accepted calls of a run, in their order, gives the same table, and all of them are accepted.
 pub record Replayed (t : Table) (calls : List Entry) : Type 0 where
   pub same_table : run t (reverse (accepted t calls [])) ≡ run t calls
-  pub all-accepted : accepted t (reverse (accepted t calls [])) [] ≡ accepted t calls []
+  pub all_accepted : accepted t (reverse (accepted t calls [])) [] ≡ accepted t calls []

@@ -73,11 +73,11 @@ none_hold ((n, b) ∷ cs) numbers e =
     (accepted-head n b cs (ltb-true 0 n here) e, none_hold cs later (accepted_tail n b cs (ltb-true 0 n here) e))
 
 -- conditions asked one list after the other: the first list's answer, or else the second's
-pub first_before : (cs rest : List Condition) (n : ℕ) → first cs ≡ n → (n ≡ 0 → ⊥) → first (cs ++ rest) ≡ n
+pub first-before : (cs rest : List Condition) (n : ℕ) → first cs ≡ n → (n ≡ 0 → ⊥) → first (cs ++ rest) ≡ n
 unfolding first
-first_before [] rest n e some = absurd (some (sym e))
-first_before ((m, true) ∷ cs) rest n e some = e
-first_before ((m, false) ∷ cs) rest n e some = first_before cs rest n e some
+first-before [] rest n e some = absurd (some (sym e))
+first-before ((m, true) ∷ cs) rest n e some = e
+first-before ((m, false) ∷ cs) rest n e some = first-before cs rest n e some
 
 pub first-behind : (cs rest : List Condition) → all_of (λ c. ltb 0 c.0) cs ≡ true → first cs ≡ 0 → first (cs ++ rest) ≡ first rest
 unfolding first all_of

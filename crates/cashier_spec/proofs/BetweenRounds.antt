@@ -13,4 +13,4 @@ no_hand t i nine sound between = go (dec_le (seat_at t i).hands.many 0)
   where
     go : Dec ((seat_at t i).hands.many ≤ 0) → (seat_at t i).hands.many ≡ 0
     go (yes none) = omega arith
-    go (no some) = absurd (true≢false (sym ((sound.seats i nine).playing (omega arith)).in-round ∙ between))
+    go (no some) = absurd (true≢false (sym ((sound.seats i nine).playing (omega arith)).in_round_lem ∙ between))

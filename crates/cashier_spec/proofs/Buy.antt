@@ -56,11 +56,11 @@ module _ (t : Table) (j p n : ℕ) (e : first (buy_conditions t j p n) ≡ 0) wh
       go : Dec (length t.seats ≤ j) → purse (guest_of t j p) + n ≤ most_money
       go (yes beyond) =
           rw (get_or-eq_default t.seats missing_seat {n = j} beyond)
-          (omega (arith, buy-accepted.in-limit, ap (λ (m : Money). m.purse) (guest_missing p)))
+          (omega (arith, buy-accepted.in_limit, ap (λ (m : Money). m.purse) (guest_missing p)))
       go (no within) =
           omega (
             arith,
-            buy-accepted.in-limit,
+            buy-accepted.in_limit,
             over_has purse (seat_at t j) p buy-accepted.guest.position,
             sum_has (over_guests purse) t.seats j missing_seat (omega arith),
           )
@@ -71,14 +71,14 @@ module _ (t : Table) (j p n : ℕ) (e : first (buy_conditions t j p n) ≡ 0) wh
       let was = (sound.seats j a.guest.nine).guests p a.guest.position in
       record {
         guest = a.guest;
-        fits = was.stake-fits;
+        fits = was.stake_fits;
         grows = omega arith;
-        seated_stakes = λ beside. (sound.seats j a.guest.nine).seated-first p a.guest.position;
-        sides_fit = was.sides-fit;
+        seated_stakes = λ beside. (sound.seats j a.guest.nine).seated_first_lem p a.guest.position;
+        sides_fit = was.sides_fit;
         as_many = refl;
         pays = omega arith;
-        same-insurance = refl;
-        in_limit = omega (arith, a.in-limit);
+        same_insurance = refl;
+        in_limit = omega (arith, a.in_limit);
       }
 
 pub buy-kept : (t : Table) (j p n : ℕ) → Shaped t → Sound t → first (buy_conditions t j p n) ≡ 0 → Shaped (buy_effect t j p n) × Sound (buy_effect t j p n)
@@ -96,8 +96,8 @@ buy_good opening es t at n order g e =
       among = refl;
       seat_is = refl;
       position_is = refl;
-      stakes = ((g.agrees.seats j).guests p).stake-is;
-      sides_are = λ k h. ((g.agrees.seats j).guests p).sides-are k h ∙ sym (sides_stay es j p (entry (Buy at n) order) refl refl k h);
+      stakes = ((g.agrees.seats j).guests p).stake_is;
+      sides_are = λ k h. ((g.agrees.seats j).guests p).sides_are k h ∙ sym (sides_stay es j p (entry (Buy at n) order) refl refl k h);
       lays_more = simp (and-false, cond_same) (omega arith);
       buys = refl;
       cashes = refl;

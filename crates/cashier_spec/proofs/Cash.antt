@@ -49,13 +49,13 @@ module _ (t : Table) (j p n : ℕ) (e : first (cash_conditions t j p n) ≡ 0) w
       let was = (sound.seats j a.guest.nine).guests p a.guest.position in
       record {
         guest = a.guest;
-        fits = was.stake-fits;
+        fits = was.stake_fits;
         grows = omega arith;
-        seated_stakes = λ beside. (sound.seats j a.guest.nine).seated-first p a.guest.position;
-        sides_fit = was.sides-fit;
+        seated_stakes = λ beside. (sound.seats j a.guest.nine).seated_first_lem p a.guest.position;
+        sides_fit = was.sides_fit;
         as_many = refl;
         pays = omega (arith, a.enough);
-        same-insurance = refl;
+        same_insurance = refl;
         in_limit = omega (arith, sound.money);
       }
 
@@ -74,8 +74,8 @@ cash_good opening es t at n order g e =
       among = refl;
       seat_is = refl;
       position_is = refl;
-      stakes = ((g.agrees.seats j).guests p).stake-is;
-      sides_are = λ k h. ((g.agrees.seats j).guests p).sides-are k h ∙ sym (sides_stay es j p (entry (Cash at n) order) refl refl k h);
+      stakes = ((g.agrees.seats j).guests p).stake_is;
+      sides_are = λ k h. ((g.agrees.seats j).guests p).sides_are k h ∙ sym (sides_stay es j p (entry (Cash at n) order) refl refl k h);
       lays_more = simp (and-false, cond_same) (omega arith);
       buys = refl;
       cashes = refl;

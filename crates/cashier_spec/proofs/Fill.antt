@@ -36,7 +36,7 @@ module _ (t : Table) (n : ℕ) (e : first (fill_conditions t n) ≡ 0) where
       record { unbroken = unbroken; between = between; some = omega (arith, eqb-false n 0 some); in_limit = ltb-false most_money (all_money t + n) in_limit }
 
   fill-moves : TrayMoves t (t.tray + n) n 0
-  fill-moves = record { between = fill-accepted.between; pays = omega arith; in_limit = omega (arith, fill-accepted.in-limit) }
+  fill-moves = record { between = fill-accepted.between; pays = omega arith; in_limit = omega (arith, fill-accepted.in_limit) }
 
 pub fill-kept : (t : Table) (n : ℕ) → Shaped t → Sound t → first (fill_conditions t n) ≡ 0 → Shaped (fill_effect t n) × Sound (fill_effect t n)
 unfolding fill_effect

@@ -69,7 +69,7 @@ no_bank w (c ∷ cs) e = absurd (omega arith)
 nothing_out : (t : Table) (order : List ℕ) → Shaped t → Sound t → is_dealt t ≡ false → (w : ℕ → ℕ) → sum_of w (out_cards (with_shoe t (new_shoe t.shoe.begun order))) ≡ 0
 unfolding sum_of
 nothing_out t order shaped s none w =
-    let nine = shaped.nine-seats in
+    let nine = shaped.nine_seats_lem in
     let hands = sum-none (λ x. sum_of w (seat_cards x)) t.seats missing_seat (λ i l. no_cards_lem w (seat_at t i) (no_hand t i (omega arith) s none)) in
     let bank = no_bank w (bank_cards t) (omega (arith, ltb-false 0 (length (bank_cards t)) none)) in
     omega (arith, sum_out (with_shoe t (new_shoe t.shoe.begun order)) w, hands, bank)
@@ -80,7 +80,7 @@ load-sound t order shaped s none v =
     record {
       options = s.options;
       begun = s.begun;
-      begun-drawn = λ some. absurd (omega arith);
+      begun_drawn = λ some. absurd (omega arith);
       valid = rw (loaded t.options.decks order v t.shoe.begun) v;
       drawn = omega arith;
       discarded = omega arith;
@@ -98,7 +98,7 @@ load-sound t order shaped s none v =
 load_shaped : (t : Table) (order : List ℕ) → Shaped t → Sound t → valid_order t.options.decks order ≡ true → Shaped (with_shoe t (new_shoe t.shoe.begun order))
 load_shaped t order shaped s v =
     record {
-      nine-seats = shaped.nine-seats;
+      nine_seats_lem = shaped.nine_seats_lem;
       seats = shaped.seats;
       bank = shaped.bank;
       order = loaded_length t.options.decks order v t.shoe.begun (decks_416 t s);

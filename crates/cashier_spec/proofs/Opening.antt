@@ -51,7 +51,7 @@ opening-accepted o order e =
 pub open_fits : (o : Options) (order : List ℕ) → first (open_conditions o order) ≡ 0 → length order ≤ 416
 open_fits o order e =
     let a = opening-accepted o order e in
-    omega (arith, valid_length o.decks order a.valid, (in_range_facts o a.in-range).decks-most)
+    omega (arith, valid_length o.decks order a.valid, (in_range_facts o a.in_range_lem).decks_most)
 
 empty-at : (i : ℕ) → i < 9 → get_or (replicate 9 empty_seat) i missing_seat ≡ empty_seat
 empty-at i h = get_or-replicate 9 i empty_seat missing_seat h
@@ -78,9 +78,9 @@ empty-bets p = go (dec_le 3 p)
 empty_shaped : ShapedSeat empty_seat
 empty_shaped =
     record {
-      four-places = refl;
-      two-others = refl;
-      four-sides = λ p h. ap (λ (m : Money). length m.sides) (empty-guest p h);
+      four_places = refl;
+      two_others = refl;
+      four_sides = λ p h. ap (λ (m : Money). length m.sides) (empty-guest p h);
       three_first = refl;
       twenty_cards = λ p h. ap (λ (x : SeatHand). length x.hand.cards) (get_or-replicate 4 p empty_place missing_place h);
     }
@@ -94,12 +94,12 @@ module _ (o : Options) (order : List ℕ) (i : ℕ) where
             let (empty, none) = empty-bets p in
             record {
               beyond = λ far. record { no_purse = empty; no_bets = none; no_hands = ap (λ (x : SeatHands). x.many) (guest-hands empty_seat p) };
-              stake-fits = λ some. absurd (omega (arith, none.no-stake));
-              insured = λ some. absurd (omega (arith, none.no-insurance));
+              stake_fits = λ some. absurd (omega (arith, none.no_stake_lem));
+              insured = λ some. absurd (omega (arith, none.no_insurance));
               sides_fit = λ k l some. absurd (omega (arith, none.no_sides k l));
-              prizes_back = omega (arith, unstaked_prizes o (guest_at empty_seat p) none.no-stake);
+              prizes_back = omega (arith, unstaked_prizes o (guest_at empty_seat p) none.no_stake_lem);
             };
-        seated_first_lem = λ p h none. (empty-bets p).1.no-stake;
+        seated_first_lem = λ p h none. (empty-bets p).1.no_stake_lem;
         waiting = λ h dealt. refl;
         playing = λ h. absurd (omega arith);
       }
@@ -108,11 +108,11 @@ module _ (o : Options) (order : List ℕ) (i : ℕ) where
   guest-agrees : (p : ℕ) (s : Seat) → (purse s ≡ 0) × NoBets s → GuestAgrees o order [] i p s
   guest-agrees p s (empty, none) =
       record {
-        stake_is = none.no-stake;
-        insurance_is = none.no-insurance;
+        stake_is = none.no_stake_lem;
+        insurance_is = none.no_insurance;
         sides_are = none.no_sides;
-        laid-is = nothing-laid s none;
-        prizes_are = unstaked_prizes o s none.no-stake;
+        laid_is = nothing-laid s none;
+        prizes_are = unstaked_prizes o s none.no_stake_lem;
         purse_is = ap pos empty;
       }
 
@@ -133,10 +133,10 @@ module _ (o : Options) (order : List ℕ) (a : OpeningAccepted o order) where
   open-shaped : Shaped (open_table o order)
   open-shaped =
       record {
-        nine-seats = refl;
+        nine_seats_lem = refl;
         seats = λ i h. subst ShapedSeat (sym (empty-at i h)) empty_shaped;
         bank = refl;
-        order = loaded_length o.decks order a.valid 0 (omega (arith, (in_range_facts o a.in-range).decks-most));
+        order = loaded_length o.decks order a.valid 0 (omega (arith, (in_range_facts o a.in_range_lem).decks_most));
         discards = length-replicate {A = ℕ} 416 0;
       }
 
@@ -144,9 +144,9 @@ module _ (o : Options) (order : List ℕ) (a : OpeningAccepted o order) where
   unfolding sum_of flat laid guest_at
   open-sound =
       record {
-        options = a.in-range;
+        options = a.in_range_lem;
         begun = omega arith;
-        begun-drawn = λ some. absurd (omega arith);
+        begun_drawn = λ some. absurd (omega arith);
         valid = subst (λ (cards : List ℕ). valid_order o.decks cards ≡ true) (sym (loaded o.decks order a.valid 0)) a.valid;
         drawn = omega arith;
         discarded = omega arith;

@@ -60,7 +60,7 @@ pub record PurseMoves (t : Table) (j p : ℕ) (m : Money) (came went : ℕ) : Ty
   pub sides_fit : (k : ℕ) → k < 4 → 0 < get_or m.sides k 0 → (0 < m.stake) × (get_or m.sides k 0 ≤ most_side)
   pub as_many : length m.sides ≡ length (sides (guest_of t j p))
   pub pays : m.purse + went + m.stake + all_sides m.sides ≡ purse (guest_of t j p) + came + stake (guest_of t j p) + all_sides (sides (guest_of t j p))
-  pub same-insurance : m.insurance ≡ insurance (guest_of t j p)
+  pub same_insurance : m.insurance ≡ insurance (guest_of t j p)
   pub in_limit : all_money t + came ≤ most_money + went
 
 module _ {t : Table} {j p : ℕ} {m : Money} {came went : ℕ} (moves : PurseMoves t j p m came went) (shaped : Shaped t) (sound : Sound t) where
@@ -81,9 +81,9 @@ module _ {t : Table} {j p : ℕ} {m : Money} {came went : ℕ} (moves : PurseMov
   sound-alone =
       record {
         beyond = λ h. absurd (omega (arith, moves.guest.within));
-        stake-fits = moves.fits;
-        insured = λ h. not-dealt (((sound.seats j moves.guest.nine).guests p moves.guest.position).insured (omega (arith, moves.same-insurance))).in-round;
-        sides_fit = moves.sides-fit;
+        stake_fits = moves.fits;
+        insured = λ h. not-dealt (((sound.seats j moves.guest.nine).guests p moves.guest.position).insured (omega (arith, moves.same_insurance))).in_round_lem;
+        sides_fit = moves.sides_fit;
         prizes_back = omega (arith, no_prizes t.options alone no_hands);
       }
 
@@ -92,15 +92,15 @@ module _ {t : Table} {j p : ℕ} {m : Money} {came went : ℕ} (moves : PurseMov
       record {
         within = moves.guest.within;
         position = moves.guest.position;
-        as_many = moves.as_many ∙ (shaped.seats j moves.guest.nine).four-sides p moves.guest.position;
+        as_many = moves.as_many ∙ (shaped.seats j moves.guest.nine).four_sides p moves.guest.position;
         sound_guest_lem = sound-alone;
         grows = moves.grows;
-        same-stake = not-dealt;
-        seated_stakes = moves.seated-stakes;
-        same-cover = not-dealt;
-        same-prizes = not-dealt;
+        same_stake = not-dealt;
+        seated_stakes = moves.seated_stakes;
+        same_cover = not-dealt;
+        same_prizes = not-dealt;
         paid = omega (arith, moves.pays, laid-stake alone no_hands, laid-stake (guest_of t j p) guest-no-hands);
-        in_limit = moves.in-limit;
+        in_limit = moves.in_limit;
       }
 
   abbrev after : Table
@@ -134,8 +134,8 @@ purse_good {opening} {es} {t} {j} {p} {m} {came} {went} e moves g told =
     (record {
       of_money =
           record {
-            seat_is = told.seat-is;
-            position_is = told.position-is;
+            seat_is = told.seat_is;
+            position_is = told.position_is;
             not_fill = not_fill e among refl;
             not_credit = not_credit e among refl;
             not_load = not_load e among refl;
@@ -144,10 +144,10 @@ purse_good {opening} {es} {t} {j} {p} {m} {came} {went} e moves g told =
             not_end = not_end e among refl;
           };
       stake_is = told.stakes;
-      insurance_is = moves.same-insurance ∙ ((g.agrees.seats j).guests p).insurance-is ∙ sym (simp (not_end e among refl, not_insure e among refl));
-      sides_are = told.sides-are;
+      insurance_is = moves.same_insurance ∙ ((g.agrees.seats j).guests p).insurance_is ∙ sym (simp (not_end e among refl, not_insure e among refl));
+      sides_are = told.sides_are;
       lays_more = omega (arith, told.lays_more, laid-stake (with_money (seat_at t j) m) none, laid-stake (guest_of t j p) guest-none);
-      same-prizes = no_prizes t.options (with_money (seat_at t j) m) none ∙ sym (no_prizes t.options (guest_of t j p) guest-none);
+      same_prizes = no_prizes t.options (with_money (seat_at t j) m) none ∙ sym (no_prizes t.options (guest_of t j p) guest-none);
       buys = told.buys;
       cashes = told.cashes;
     })

@@ -78,7 +78,7 @@ module _ (t : Table) (j p k n : ℕ) (e : first (side_conditions t j p k n) ≡ 
   -- the side stakes with the new one
   module _ (shaped : Shaped t) where
     four : length (sides (guest_of t j p)) ≡ 4
-    four = (shaped.seats j side-accepted.guest.nine).four-sides p side-accepted.guest.position
+    four = (shaped.seats j side-accepted.guest.nine).four_sides p side-accepted.guest.position
 
     more : all_sides (set (sides (guest_of t j p)) (k - 1) n) ≡ all_sides (sides (guest_of t j p)) + n
     more = omega (arith, sides-set (sides (guest_of t j p)) (k - 1) n four (omega (arith, side-accepted.most)), side-accepted.unlaid)
@@ -97,13 +97,13 @@ module _ (t : Table) (j p k n : ℕ) (e : first (side_conditions t j p k n) ≡ 
         let was = (sound.seats j a.guest.nine).guests p a.guest.position in
         record {
           guest = a.guest;
-          fits = was.stake-fits;
+          fits = was.stake_fits;
           grows = omega arith;
-          seated_stakes = λ beside. (sound.seats j a.guest.nine).seated-first p a.guest.position;
-          sides_fit = at_place (λ i x. i < 4 → 0 < x → (0 < stake (guest_of t j p)) × (x ≤ most_side)) (λ h some. (a.staked, a.permitted)) (λ i away. was.sides-fit i);
+          seated_stakes = λ beside. (sound.seats j a.guest.nine).seated_first_lem p a.guest.position;
+          sides_fit = at_place (λ i x. i < 4 → 0 < x → (0 < stake (guest_of t j p)) × (x ≤ most_side)) (λ h some. (a.staked, a.permitted)) (λ i away. was.sides_fit i);
           as_many = length-set (sides (guest_of t j p)) (k - 1) n;
           pays = omega (arith, more, a.enough);
-          same-insurance = refl;
+          same_insurance = refl;
           in_limit = omega (arith, sound.money);
         }
 
@@ -139,11 +139,11 @@ side_good opening es t at k n order g e =
       among = purse-call;
       seat_is = refl;
       position_is = refl;
-      stakes = ((g.agrees.seats j).guests p).stake-is ∙ sym (simp (no_end, ne_eqb (17 + k) 5 (omega arith)));
+      stakes = ((g.agrees.seats j).guests p).stake_is ∙ sym (simp (no_end, ne_eqb (17 + k) 5 (omega arith)));
       sides_are = λ i h.
           at_place t j p k n e g.shaped (λ i x. i < 4 → x ≡ side_in (entry (Side at k n) order ∷ es) j p (i + 1))
           (λ l. sym (simp (no_end, seat-itself, itself, eq-eqb (17 + k) (17 + (k - 1 + 1)) (omega (arith, a.least)))))
-          (λ i away l. ((g.agrees.seats j).guests p).sides-are i l ∙ sym (simp (no_end, ne_eqb (17 + k) (17 + (i + 1)) (λ same. away (omega arith)))))
+          (λ i away l. ((g.agrees.seats j).guests p).sides_are i l ∙ sym (simp (no_end, ne_eqb (17 + k) (17 + (i + 1)) (λ same. away (omega arith)))))
           i h;
       lays_more = simp (seat-itself, itself, not_double it purse-call refl, not_split it purse-call refl, is-side at k n order a.least a.most, or-true) (omega (arith, more t j p k n e g.shaped));
       buys = simp (ne_eqb (17 + k) 3 (omega arith));

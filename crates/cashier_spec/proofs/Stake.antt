@@ -56,14 +56,14 @@ module _ (t : Table) (j p n : ℕ) (e : first (stake_conditions t j p n) ≡ 0) 
       seated-staked false beside none = absurd (true≢false (sym (ap not beside) ∙ (sym (and-true (not (eqb p 0))) ∙ none)))
 
   -- the largest stake that an option can be bounds it
-  pub stake-fits : n ≤ 1000000
+  pub stake_fits : n ≤ 1000000
   unfolding stake_permitted
-  stake-fits =
+  stake_fits =
       let a = stake-accepted in
       let o = t.options in
       let (in_range_lem, even) = (and-eq-true_iff (leb o.smallest n && leb n o.largest) _).0 a.permitted in
       let (least, most) = (and-eq-true_iff (leb o.smallest n) _).0 in_range_lem in
-      omega (arith, leb-true n o.largest most, (sound_options t (unbroken t a.guest.unbroken)).largest-most)
+      omega (arith, leb-true n o.largest most, (sound_options t (unbroken t a.guest.unbroken)).largest_most)
 
   stake-moves : Sound t → PurseMoves t j p (staking (guest_of t j p).money n) 0 0
   stake-moves sound =
@@ -73,10 +73,10 @@ module _ (t : Table) (j p n : ℕ) (e : first (stake_conditions t j p n) ≡ 0) 
         fits = λ h. a.permitted;
         grows = omega (arith, a.unstaked);
         seated_stakes = λ beside none. absurd (omega (arith, a.seated beside));
-        sides_fit = λ k h some. (a.some, (((sound.seats j a.guest.nine).guests p a.guest.position).sides-fit k h some).1);
+        sides_fit = λ k h some. (a.some, (((sound.seats j a.guest.nine).guests p a.guest.position).sides_fit k h some).1);
         as_many = refl;
         pays = omega (arith, a.unstaked, a.enough);
-        same-insurance = refl;
+        same_insurance = refl;
         in_limit = omega (arith, sound.money);
       }
 
@@ -98,7 +98,7 @@ stake_good opening es t at n order g e =
       seat_is = refl;
       position_is = refl;
       stakes = simp (seat-itself, itself);
-      sides_are = λ k h. ((g.agrees.seats j).guests p).sides-are k h ∙ sym (sides_stay es j p (entry (Stake at n) order) refl refl k h);
+      sides_are = λ k h. ((g.agrees.seats j).guests p).sides_are k h ∙ sym (sides_stay es j p (entry (Stake at n) order) refl refl k h);
       lays_more = simp (seat-itself, itself) (omega (arith, (stake-accepted t j p n e).unstaked));
       buys = refl;
       cashes = refl;

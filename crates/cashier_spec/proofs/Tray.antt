@@ -24,22 +24,22 @@ pub record TrayMoves (t : Table) (tray came went : ℕ) : Type 0 where
 module _ {t : Table} {tray came went : ℕ} (moves : TrayMoves t tray came went) where
   pub tray_kept : Shaped t → Sound t → Shaped (with_tray t tray) × Sound (with_tray t tray)
   tray_kept shaped sound = (
-    record { nine-seats = shaped.nine-seats; seats = shaped.seats; bank = shaped.bank; order = shaped.order; discards = shaped.discards },
+    record { nine_seats_lem = shaped.nine_seats_lem; seats = shaped.seats; bank = shaped.bank; order = shaped.order; discards = shaped.discards },
     record {
       options = sound.options;
       begun = sound.begun;
-      begun-drawn = sound.begun-drawn;
+      begun_drawn = sound.begun_drawn;
       valid = sound.valid;
       drawn = sound.drawn;
       discarded = sound.discarded;
-      discarded_drawn = sound.discarded-drawn;
+      discarded_drawn = sound.discarded_drawn;
       discards = sound.discards;
       faces = sound.faces;
       number = sound.number;
       seats = sound.seats;
       bank = sound.bank;
       round = sound.round;
-      money = omega (arith, moves.pays, moves.in-limit);
+      money = omega (arith, moves.pays, moves.in_limit);
       cover = λ dealt. absurd (true≢false (sym dealt ∙ moves.between));
     },
   )

@@ -52,5 +52,5 @@ pub settled_is : (t : Table) (bank : Hand) (score : Score) (u : Table) {names na
     → given_of (make_reply 0 bank lines scores u) names-then nets-then ≡ given_by (make_reply_view 0 (close_shown t) (close_effect t)) names nets
 unfolding close_shown
 settled_is t bank score u {lines = lines} scores cards e shown effect said =
-    let many : lines ≡ length (all_lines t.options score 0 t.seats) = omega (arith, shown.behind-is) in
-    rw (shown.names-are, shown.nets-are, many, effect, said, one-score (hand_score (cards_of bank)), scored t bank score cards e, cards)
+    let many : lines ≡ length (all_lines t.options score 0 t.seats) = omega (arith, shown.behind_is) in
+    rw (shown.names_are, shown.nets_are, many, effect, said, one-score (hand_score (cards_of bank)), scored t bank score cards e, cards)

@@ -46,8 +46,8 @@ module _ (t : Table) (n : ℕ) (says : first (close_conditions t) ≡ cond (eqb 
     pub last_refused : draws ≡ true → 18 ≡ first (close_conditions t)
     last_refused e = sym (late ∙ rw e)
 
-    pub all-accepted : draws ≡ false → first (close_conditions t) ≡ 0
-    all-accepted e = late ∙ rw e
+    pub all_accepted : draws ≡ false → first (close_conditions t) ≡ 0
+    all_accepted e = late ∙ rw e
 
     pub closes : draws ≡ false → Closes t bank
-    closes e = let ok = close-accepted t (all-accepted e) in record { sound = ok.sound; dealt = ok.dealt; cards = cards; stands = ok.stands }
+    closes e = let ok = close-accepted t (all_accepted e) in record { sound = ok.sound; dealt = ok.dealt; cards = cards; stands = ok.stands }

@@ -24,7 +24,7 @@ use Rattle.table.specs.declared.Seat.{Seat}
 use Rattle.table.specs.Seat.{missing_place, guest_at, stake, insurance, sides, hands, first_cards, bets_of, laid, prizes, seat_cover}
 use Rattle.table.specs.Aids.Sound.{SoundSeat, SoundGuest, NoBets}
 use Rattle.table.proofs.Guests.{guest-hands}
-use Rattle.table.proofs.Facts.{insurance-most, few_hands}
+use Rattle.table.proofs.Facts.{insurance_most, few_hands}
 use Rattle.close_spec.specs.Close.{guest_back}
 
 -- without hands there are no wagers
@@ -49,7 +49,7 @@ module _ (o : Options) (up i : ℕ) (s : Seat) (sound : SoundGuest o true up i s
     where
       go : Dec (insurance s ≤ 0) → insurance s ≤ stake s
       go (yes h) = omega arith
-      go (no h) = insurance-most o (stake s) (insurance s) (sound.insured (omega arith)).permitted
+      go (no h) = insurance_most o (stake s) (insurance s) (sound.insured (omega arith)).permitted
 
   -- so whatever the stake, wagers, insurance and side stakes are at most what was laid
   wagers-most : sum_of (wager (stake s)) (hands s) + insurance s + all_sides (sides s) ≤ laid s
@@ -89,13 +89,13 @@ nothing_back o bank s none =
     let hands_none : sum_of (λ h. (hand_pay o bank (stake s) h).back) (hands s) ≡ 0 =
     sum-none (λ h. (hand_pay o bank (stake s) h).back) (hands s) (played_of missing_place) (λ k h.
     let x = get_or (hands s) k (played_of missing_place) in
-    omega (arith, none.no-stake, gain_most o bank (stake s) x, (wager_bounds (stake s) x).1)) in
+    omega (arith, none.no_stake_lem, gain_most o bank (stake s) x, (wager_bounds (stake s) x).1)) in
     let sides-none = sides-most (first_cards s) (sides s) in
     omega (
       arith,
-      seat_gain o bank (stake s) [] (insurance s) (omega arith) (omega (arith, none.no-insurance)),
-      none.no-stake,
-      none.no-insurance,
+      seat_gain o bank (stake s) [] (insurance s) (omega arith) (omega (arith, none.no_insurance)),
+      none.no_stake_lem,
+      none.no_insurance,
       none.no_sides 0 (omega arith),
       none.no_sides 1 (omega arith),
       none.no_sides 2 (omega arith),

@@ -78,7 +78,7 @@ counts_same false (up ∷ x ∷ xs) rest one stands = absurd (omega (arith, one 
 -- the box takes no later burn, so none before the bank's cards
 pub box_burns_none : (o : Options) → InRange o → is_box o ≡ true → bank_burn o ≡ 0
 unfolding bank_burn
-box_burns_none o f box = rw (f.box-later box)
+box_burns_none o f box = rw (f.box_later box)
 
 -- the same from the history's cards: of a bank that has one card, and of the box's
 module _ (o : Options) (order : List ℕ) (fresh : Bool) (drawn : ℕ) (bank : List ℕ) where

@@ -56,14 +56,14 @@ use Rattle.close_spec.proofs.Tray.{dealt_seat_lem, tray_pays}
 pub record CloseAccepted (t : Table) : Type 0 where
   pub sound : Sound t
   pub dealt : is_dealt t ≡ true
-  pub none-waits : some_waits t.options (up t) (seats_hands t) ≡ false
+  pub none_waits : some_waits t.options (up t) (seats_hands t) ≡ false
   pub stands : must_draw (bank_at_close t) ≡ false
 
 pub close-accepted : (t : Table) → first (close_conditions t) ≡ 0 → CloseAccepted t
 unfolding close_conditions all_of
 close-accepted t e =
-    let (whole, (dealt, (none-waits, (stands, _)))) = none_hold (close_conditions t) refl e in
-    record { sound = unbroken t whole; dealt = not-false (is_dealt t) dealt; none-waits = none-waits; stands = stands }
+    let (whole, (dealt, (none_waits, (stands, _)))) = none_hold (close_conditions t) refl e in
+    record { sound = unbroken t whole; dealt = not-false (is_dealt t) dealt; none_waits = none_waits; stands = stands }
 
 -- and what it leaves
 module _ (t : Table) (shaped : Shaped t) (ok : CloseAccepted t) where
@@ -78,7 +78,7 @@ module _ (t : Table) (shaped : Shaped t) (ok : CloseAccepted t) where
   in_round_lem = dealt_seat_lem t ok.sound ok.dealt
 
   covered : sum_of (over_guests (guest_back o (close_score t))) t.seats ≤ t.tray + layout t
-  covered = tray_pays t ok.sound ok.dealt shaped.nine-seats (close_score t)
+  covered = tray_pays t ok.sound ok.dealt shaped.nine_seats_lem (close_score t)
 
   end : RoundEnd t (close_effect t).tray paid (close_effect t).shoe (close_takes t)
   unfolding close_effect
@@ -92,9 +92,9 @@ module _ (t : Table) (shaped : Shaped t) (ok : CloseAccepted t) where
               sum-plus (over_guests purse) (over_guests (guest_back o (close_score t))) t.seats,
             );
         nothing_stays = λ s empty none. omega (arith, nothing_back o (close_score t) s none);
-        same-order = refl;
+        same_order = refl;
         more_drawn = refl;
-        same-begun = refl;
+        same_begun = refl;
         drawn_before = λ some. dealt-drawn t ok.sound ok.dealt;
         enough = enough t ok.sound ok.dealt ok.stands;
         all_discards = refl;
@@ -112,13 +112,13 @@ module _ (t : Table) (shaped : Shaped t) (ok : CloseAccepted t) where
       any_guest_lem t shaped Staked i p (λ h l.
       let s = seat_at t i in
       let sound = in_round_lem i h in
-      let many = hands_many s (shaped.seats i h).four-places (most_many o true (up t) i s (sound_options t ok.sound).hands-most sound) in
+      let many = hands_many s (shaped.seats i h).four_places (most_many o true (up t) i s (sound_options t ok.sound).hands_most sound) in
       record {
         insured = insured-most o (up t) i (guest_at s p) (sound.guests p l);
-        waiting = λ none. sound.seated-first p l (sound.waiting (omega (arith, ap (λ (hs : SeatHands). length (hands_of hs)) (guest-hands s p))) refl);
+        waiting = λ none. sound.seated_first_lem p l (sound.waiting (omega (arith, ap (λ (hs : SeatHands). length (hands_of hs)) (guest-hands s p))) refl);
         unsided = no_sides o true (up t) i (guest_at s p) (sound.guests p l);
       })
-      (λ s none. record { insured = omega (arith, none.no-insurance); waiting = λ empty. none.no-stake; unsided = λ unstaked. none.no_sides })
+      (λ s none. record { insured = omega (arith, none.no_insurance); waiting = λ empty. none.no_stake_lem; unsided = λ unstaked. none.no_sides })
 
   kept : Shaped (close_effect t) × Sound (close_effect t)
   unfolding close_effect
@@ -142,18 +142,18 @@ module _ (opening : List ℕ) (es : List Entry) (t : Table) (order : List ℕ) (
 
   -- a guest has the hands and the first cards of the seat
   hands-same : (i p : ℕ) → hands (guest_of t i p) ≡ hands_in t.options opening es i
-  hands-same i p = ap hands_of (guest-hands (seat_at t i) p) ∙ (g.agrees.seats i).hands-are
+  hands-same i p = ap hands_of (guest-hands (seat_at t i) p) ∙ (g.agrees.seats i).hands_are
 
   first-same : (i p : ℕ) → 0 < length (hands (guest_of t i p)) → first_cards (guest_of t i p) ≡ first_in t.options opening es i
   first-same i p some =
       let s = seat_at t i in
       let hs = guest-hands s p in
-      (λ j. take (cond (eqb (length (hands_of (hs j))) 1) 2 3) (guest-first s p j)) ∙ (g.agrees.seats i).first-is (omega (arith, ap (λ (x : SeatHands). length (hands_of x)) hs))
+      (λ j. take (cond (eqb (length (hands_of (hs j))) 1) 2 3) (guest-first s p j)) ∙ (g.agrees.seats i).first_is (omega (arith, ap (λ (x : SeatHands). length (hands_of x)) hs))
 
   -- what is paid to a guest of any number and position: a seat with hands has the history's first cards, and at one without there is no side stake
   sides-paid : (i p : ℕ) → side_pays (sides (guest_of t i p)) (first_cards (guest_of t i p)) ≡ side_pays (sides_in es i p) (first_in t.options opening es i)
   sides-paid i p =
-      go (dec_le (length (hands s)) 0) ∙ same-sides (sides s) (first_in t.options opening es i) (side_in es i p) ((g.agrees.seats i).guests p).sides-are
+      go (dec_le (length (hands s)) 0) ∙ same-sides (sides s) (first_in t.options opening es i) (side_in es i p) ((g.agrees.seats i).guests p).sides_are
     where
       s : Seat
       s = guest_of t i p
@@ -169,7 +169,7 @@ module _ (opening : List ℕ) (es : List Entry) (t : Table) (order : List ℕ) (
   unfolding pays_of
   all_paid i p =
       let a = (g.agrees.seats i).guests p in
-      rw (sides-paid i p, score-is, a.stake-is, a.insurance-is, hands-same i p) refl
+      rw (sides-paid i p, score-is, a.stake_is, a.insurance_is, hands-same i p) refl
 
   -- the purse of a guest of any number and position
   purses : (i p : ℕ) → pos (paid t g.shaped ok (guest_of t i p)) ≡ purse_of t.options opening (entry Close order ∷ es) i p
@@ -181,8 +181,8 @@ module _ (opening : List ℕ) (es : List Entry) (t : Table) (order : List ℕ) (
       let facts = staked t g.shaped ok i p in
       purse-end t.options opening es i (entry Close order) closes p (purse s) (paid t g.shaped ok s)
       (laid s + back_of pays) (0 + laid_of pays)
-      (rw (← a.laid-is, ← all_paid i p) (diff_add (diff_pos (laid s)) (nets_diff pays)))
-      a.purse-is (omega (arith, laid-wagers s facts.insured facts.waiting, laid_of_lem t.options (close_score t) (bets_of s)))
+      (rw (← a.laid_is, ← all_paid i p) (diff_add (diff_pos (laid s)) (nets_diff pays)))
+      a.purse_is (omega (arith, laid-wagers s facts.insured facts.waiting, laid_of_lem t.options (close_score t) (bets_of s)))
 
   call : EndCall opening es t (entry Close order) (close_effect t).tray (paid t g.shaped ok) (close_effect t).shoe (close_takes t)
   unfolding call_takes
@@ -212,7 +212,7 @@ close-gains opening es t i p g e =
     let s = guest_of t i p in
     let pays = guest_pays t.options (close_score t) s in
     let facts = staked t g.shaped ok i p in
-    let after : pos (purse (guest_of (close_effect t) i p)) ≡ purse_of t.options opening (entry Close [] ∷ es) i p = (((close_good opening es t [] g e).agrees.seats i).guests p).purse-is in
+    let after : pos (purse (guest_of (close_effect t) i p)) ≡ purse_of t.options opening (entry Close [] ∷ es) i p = (((close_good opening es t [] g e).agrees.seats i).guests p).purse_is in
     let paid_purse_lem : pos (purse s + back_of pays) ≡ purse_of t.options opening (entry Close [] ∷ es) i p = purses opening es t [] g ok i p in
     record {
       gained = cc (after, paid_purse_lem);

@@ -11,7 +11,7 @@ use lib.ListN.{length, get_or, get_or-eq_default}
 use borrow.Author.Tests.{eq-eqb, ne_eqb, eqb-true, eqb-false, ltb-false, le-ltb, lt-leb}
 use Rattle.lists.specs.Tests.{those}
 use Rattle.lists.proofs.Tests.{cond_same}
-use Rattle.lists.proofs.Numbered.{those_append, those_numbered}
+use Rattle.lists.proofs.Numbered.{those-append, those_numbered}
 use Rattle.call.specs.PayLine.{PayLine, line}
 use Rattle.options.specs.declared.Options.{Options}
 use Rattle.payment.specs.declared.bank.Score.{Score}
@@ -106,7 +106,7 @@ module _ (o : Options) (bank : Score) (seat position place kind : ℕ) where
       ≡ cond (leb (side_kind 1) kind && leb kind (side_kind 4) && eqb place 0 && ltb 0 (side sides (kind - 1))) (side_line sides first kind ∷ []) []
   unfolding side_pays
   own-sides sides first =
-      simp (map-append, those_append, own-side sides first 1, own-side sides first 2, own-side sides first 3, own-side sides first 4)
+      simp (map-append, those-append, own-side sides first 1, own-side sides first 2, own-side sides first 3, own-side sides first 4)
       (picked (eqb place 0) (λ k. ltb 0 (side sides (k - 1))) (side_line sides first) kind)
 
   own-guest : (s : Seat) → those asked (guest_lines o bank seat position s) ≡ due_lines o bank seat position s place kind
@@ -118,7 +118,7 @@ module _ (o : Options) (bank : Score) (seat position place kind : ℕ) where
 
       go : (b : Bool) → is_staked s ≡ b → those asked (guest_lines o bank seat position s) ≡ due_lines o bank seat position s place kind
       go true staked =
-          simp (staked, map-append, those_append, own-insurance (insurance s), own-sides (sides s) (first_cards s), own-hands (stake s) (hands s))
+          simp (staked, map-append, those-append, own-insurance (insurance s), own-sides (sides s) (first_cards s), own-hands (stake s) (hands s))
           (parted (eqb kind hand_kind) (eqb kind insurance_kind) _ (ltb place (length (hands s))) (eqb place 0) (ltb 0 (insurance s)) _ _ _
           (λ e. (ne_eqb kind insurance_kind (λ f. omega (arith, eqb-true kind hand_kind e)), before-sides (omega (arith, eqb-true kind hand_kind e))))
           (λ e. before-sides (omega (arith, eqb-true kind insurance_kind e))))
@@ -145,7 +145,7 @@ module _ (o : Options) (bank : Score) (seat position place kind : ℕ) where
   unfolding seat_lines
   other_seat j s apart =
       let other : (q : ℕ) → eqb seat j && eqb position q ≡ false = λ q. simp (ne_eqb seat j (λ e. apart (sym e))) in
-      simp (those_append, other_guest j 0 (guest_at s 0) (other 0), other_guest j 1 (guest_at s 1) (other 1), other_guest j 2 (guest_at s 2) (other 2))
+      simp (those-append, other_guest j 0 (guest_at s 0) (other 0), other_guest j 1 (guest_at s 1) (other 1), other_guest j 2 (guest_at s 2) (other 2))
 
   -- past the seats nothing is due
   none-due : due_lines o bank seat position (guest_at missing_seat position) place kind ≡ []
@@ -162,12 +162,12 @@ own_seat o bank seat position place kind s = go position
     other p q apart = other-position o bank seat p place kind seat q (guest_at s q) apart
 
     go : (p : ℕ) → those (names seat p place kind) (seat_lines o bank seat s) ≡ cond (ltb p 3) (due_lines o bank seat p (guest_at s p) place kind) []
-    go zero = simp (those_append, own-guest o bank seat 0 place kind (guest_at s 0), other 0 1 (λ e. omega arith), other 0 2 (λ e. omega arith), append-nil)
-    go (suc zero) = simp (those_append, own-guest o bank seat 1 place kind (guest_at s 1), other 1 0 (λ e. omega arith), other 1 2 (λ e. omega arith), append-nil)
-    go (suc (suc zero)) = simp (those_append, own-guest o bank seat 2 place kind (guest_at s 2), other 2 0 (λ e. omega arith), other 2 1 (λ e. omega arith))
+    go zero = simp (those-append, own-guest o bank seat 0 place kind (guest_at s 0), other 0 1 (λ e. omega arith), other 0 2 (λ e. omega arith), append-nil)
+    go (suc zero) = simp (those-append, own-guest o bank seat 1 place kind (guest_at s 1), other 1 0 (λ e. omega arith), other 1 2 (λ e. omega arith), append-nil)
+    go (suc (suc zero)) = simp (those-append, own-guest o bank seat 2 place kind (guest_at s 2), other 2 0 (λ e. omega arith), other 2 1 (λ e. omega arith))
     go (suc (suc (suc p))) =
         let q = suc (suc (suc p)) in
-        simp (those_append, other q 0 (λ e. omega arith), other q 1 (λ e. omega arith), other q 2 (λ e. omega arith), le-ltb q 3 (omega arith))
+        simp (those-append, other q 0 (λ e. omega arith), other q 1 (λ e. omega arith), other q 2 (λ e. omega arith), le-ltb q 3 (omega arith))
 
 pub each_once_lem : (o : Options) (bank : Score) (seats : List Seat) → EachOnce o bank seats
 unfolding all_lines

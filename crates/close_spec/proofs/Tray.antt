@@ -42,4 +42,4 @@ module _ (t : Table) (sound : Sound t) where
         o = t.options
 
         most : (i : ℕ) → i < 9 → (p : ℕ) → p < 3 → guest_back o bank (guest_of t i p) + prizes o (guest_of t i p) ≤ laid (guest_of t i p) + seat_cover (guest_of t i p)
-        most i h = guest-most o (up t) i (seat_at t i) (dealt_seat_lem i h) (sound_options t sound).hands-most bank
+        most i h = guest-most o (up t) i (seat_at t i) (dealt_seat_lem i h) (sound_options t sound).hands_most bank

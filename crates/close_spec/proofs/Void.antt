@@ -46,8 +46,8 @@ void-accepted t e =
 -- the prizes of a guest of any number and position are within the purse and what was laid
 prizes-within : (t : Table) → Shaped t → Sound t → (i p : ℕ) → prizes t.options (guest_of t i p) ≤ purse (guest_of t i p) + laid (guest_of t i p)
 prizes-within t shaped sound i p =
-    any_guest_lem t shaped (λ s. prizes t.options s ≤ purse s + laid s) i p (λ h l. ((sound.seats i h).guests p l).prizes-back)
-    (λ s none. omega (arith, unstaked_prizes t.options s none.no-stake))
+    any_guest_lem t shaped (λ s. prizes t.options s ≤ purse s + laid s) i p (λ h l. ((sound.seats i h).guests p l).prizes_back)
+    (λ s none. omega (arith, unstaked_prizes t.options s none.no_stake_lem))
 
 void_paid : (t : Table) → Shaped t → Sound t → (void_effect t).tray + sum_of (over_guests (void_purse t.options)) t.seats ≡ all_money t
 unfolding void_effect
@@ -73,9 +73,9 @@ round-end t shaped sound =
     record {
       paid = void_paid t shaped sound;
       nothing_stays = λ s empty none. omega (arith, nothing-laid s none);
-      same-order = refl;
+      same_order = refl;
       more_drawn = omega arith;
-      same-begun = refl;
+      same_begun = refl;
       drawn_before = λ some. absurd (omega arith);
       enough = omega (arith, sound.drawn);
       all_discards = refl;
@@ -97,7 +97,7 @@ module _ (opening : List ℕ) (es : List Entry) (t : Table) (order : List ℕ) (
       purse-end t.options opening es i (entry Void order) (void-ends order) p (purse (guest_of t i p)) (void_purse t.options (guest_of t i p))
       (laid_in es i p + 0) (0 + prizes_in t.options opening es i p)
       (diff_sub (diff_pos (laid_in es i p)) (diff_pos (prizes_in t.options opening es i p)))
-      a.purse-is (omega (arith, a.laid-is, a.prizes-are, prizes-within t g.shaped g.sound i p))
+      a.purse_is (omega (arith, a.laid_is, a.prizes_are, prizes-within t g.shaped g.sound i p))
 
   -- the history's call
   void-call : EndCall opening es t (entry Void order) (void_effect t).tray (void_purse t.options) (void_effect t).shoe 0

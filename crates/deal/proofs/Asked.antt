@@ -20,4 +20,4 @@ pub deal-asked : (t : Table) {dealt : Bool} {m : Sums} {due : Bool} {left takes 
     ≡ first (deal_conditions t)
 unfolding deal_conditions first
 deal-asked t {dealt} {m} {due} {left} {takes} nine whole is-dealt sums is-due is-left is-takes =
-    rw (whole, is-dealt, is-due, is-left, is-takes, ← nothing-staked t m sums nine (λ i h. ((unbroken t whole).seats i h).seated-first), sums)
+    rw (whole, is-dealt, is-due, is-left, is-takes, ← nothing-staked t m sums nine (λ i h. ((unbroken t whole).seats i h).seated_first_lem), sums)

@@ -22,5 +22,5 @@ deal-room t e =
       enough = ok.enough;
       burn = omega arith;
       decks = decks_416 t ok.sound;
-      discards = ok.sound.discarded-drawn;
+      discards = ok.sound.discarded_drawn;
     }

@@ -39,11 +39,11 @@ use Rattle.agreement.proofs.Quiet.{guest-alike, untouched_guest, no_money}
 use Rattle.agreement.proofs.Events.{seat_decided, nobody-decided}
 use Rattle.deal_spec.specs.Burn.{first_burn, later_burn, burn_at_deal}
 use Rattle.deal_spec.specs.Deal.{staked_seats, burnt, deal_takes, dealt_seats, up_card, hidden_card, deal_conditions, deal_effect}
-use Rattle.lists.proofs.Parts.{sum_first, sum_before}
+use Rattle.lists.proofs.Parts.{sum_first, sum-before}
 use Rattle.deal_spec.proofs.DealAccepted.{DealAccepted, deal-accepted}
 use Rattle.deal_spec.proofs.DealtBank.{some_at-deal, bank_cards_lem}
 use Rattle.deal_spec.proofs.DealtSeat.{dealt-hands, dealt-first}
-use Rattle.deal_spec.proofs.DealSound.{first_place, second_place, staked_before, first_of, second_of, dealt_at, past, no_hand_yet, no_hands_yet, staked-nine, dealt_either, laid-after, prizes-after, now_dealt, deal_money, deal_shaped, deal-sound}
+use Rattle.deal_spec.proofs.DealSound.{first_place, second_place, staked_before, first_of, second_of, dealt_at, past, no_hand_yet, no_hands_yet, staked-nine, dealt_either, laid-after, prizes-after, now-dealt, deal_money, deal_shaped, deal-sound}
 
 -- the burn, as the history says it
 same-burn : (o : Options) (sh : Shoe) (c : Cards) → InRange o → burns_first o sh ≡ c.fresh → burn_at_deal o sh ≡ deal_burns o c
@@ -70,12 +70,12 @@ module _ (opening : List ℕ) (es : List Entry) (t : Table) (order : List ℕ) (
 
   -- the stake of the seated guest
   stake_is : (i : ℕ) → stake (seat_at t i) ≡ stake_in es i 0
-  stake_is i = ap stake (sym (guest-seated (seat_at t i))) ∙ ((g.agrees.seats i).guests 0).stake-is
+  stake_is i = ap stake (sym (guest-seated (seat_at t i))) ∙ ((g.agrees.seats i).guests 0).stake_is
 
   -- how many seats below a number have staked
   before-is : (i : ℕ) → i ≤ 9 → staked_before t i ≡ staked_below es i
   before-is i h =
-      sum_first (λ s. one (stake s)) t.seats i missing_seat (omega (arith, g.shaped.nine-seats))
+      sum_first (λ s. one (stake s)) t.seats i missing_seat (omega (arith, g.shaped.nine_seats_lem))
       ∙ sum_below-same (λ k. one (stake (seat_at t k))) (λ k. one (stake_in es k 0)) i (λ k l. ap one (stake_is k))
 
   no_stake_lem : (i : ℕ) → t.options.seats ≤ i → stake_in es i 0 ≡ 0
@@ -83,13 +83,13 @@ module _ (opening : List ℕ) (es : List Entry) (t : Table) (order : List ℕ) (
     where
       go : Dec (9 ≤ i) → stake (seat_at t i) ≡ 0
       go (yes l) = ap stake (past t g.shaped ok i l)
-      go (no l) = ap stake (sym (guest-seated (seat_at t i))) ∙ (((g.sound.seats i (omega arith)).guests 0 (omega arith)).beyond h).no-bets.no-stake
+      go (no l) = ap stake (sym (guest-seated (seat_at t i))) ∙ (((g.sound.seats i (omega arith)).guests 0 (omega arith)).beyond h).no_bets.no_stake_lem
 
   staked-is : staked_seats t.seats ≡ staked_below es t.options.seats
   staked-is =
-      let most = (sound_options t g.sound).seats-most in
+      let most = (sound_options t g.sound).seats_most in
       let nine : t.options.seats + (9 - t.options.seats) ≡ 9 = omega arith in
-      ap staked_seats (sym (take_all 9 t.seats (omega (arith, g.shaped.nine-seats))))
+      ap staked_seats (sym (take_all 9 t.seats (omega (arith, g.shaped.nine_seats_lem))))
       ∙ before-is 9 (omega arith)
       ∙ ap (staked_below es) (sym nine)
       ∙ sum_below_more (λ k. one (stake_in es k 0)) t.options.seats (9 - t.options.seats) (λ i h. ap one (no_stake_lem i h))
@@ -156,14 +156,14 @@ module _ (opening : List ℕ) (es : List Entry) (t : Table) (order : List ℕ) (
       let within = staked-nine t g.shaped ok i staked in
       let below = before-is i (omega arith) in
       let counted : one (stake (seat_at t i)) ≡ 1 = rw staked in
-      let rank : staked_before t i < staked_seats t.seats = omega (arith, sum_before (λ s. one (stake s)) t.seats i missing_seat (omega (arith, g.shaped.nine-seats))) in
+      let rank : staked_before t i < staked_seats t.seats = omega (arith, sum-before (λ s. one (stake s)) t.seats i missing_seat (omega (arith, g.shaped.nine_seats_lem))) in
       let there : ltb 0 (stake_in es i 0) ≡ true = ap (ltb 0) (sym (stake_is i)) ∙ staked in
       let first-card = card_is (first_place t + staked_before t i) (c.taken + deal_burns t.options c + staked_below es i) (omega (arith, burn-is, g.agrees.cards.taken)) (omega arith) in
       let second-card =
       card_is (second_place t + staked_before t i) (c.taken + deal_burns t.options c + staked_below es t.options.seats + 1 + staked_below es i)
       (omega (arith, burn-is, staked-is, g.agrees.cards.taken)) (omega (arith, some_at-deal t.options)) in
       rw there
-      (dealt-hands (seat_at t i) (g.shaped.seats i within).four-places (first_of t i) (second_of t i)
+      (dealt-hands (seat_at t i) (g.shaped.seats i within).four_places (first_of t i) (second_of t i)
       ∙ ap₂ (λ (x y : ℕ). played (x ∷ y ∷ []) dealt not_ended ∷ []) first-card second-card)
 
   -- its first cards are the two of that hand
@@ -171,8 +171,8 @@ module _ (opening : List ℕ) (es : List Entry) (t : Table) (order : List ℕ) (
   unfolding first_after
   first_is i staked =
       let was = g.shaped.seats i (staked-nine t g.shaped ok i staked) in
-      let hand = dealt-hands (seat_at t i) was.four-places (first_of t i) (second_of t i) in
-      dealt-first (seat_at t i) was.four-places (first_of t i) (second_of t i) was.three-first
+      let hand = dealt-hands (seat_at t i) was.four_places (first_of t i) (second_of t i) in
+      dealt-first (seat_at t i) was.four_places (first_of t i) (second_of t i) was.three_first
       ∙ ap (λ (hs : List Played). (get_or hs 0 missing_hand).cards) (sym hand ∙ hand_is i staked)
 
   no-hand-is : (i : ℕ) → is_staked (seat_at t i) ≡ false → hands (seat_at t i) ≡ hands_in t.options opening (e ∷ es) i
@@ -217,14 +217,14 @@ module _ (opening : List ℕ) (es : List Entry) (t : Table) (order : List ℕ) (
 
   undecided-after : (any_drew (deal_effect t) ≡ false) × (any_decided (deal_effect t) ≡ false)
   unfolding deal_effect
-  undecided-after = nobody-decided (deal_effect t) (λ i h. ap seat_decided (seat-agrees i).hands-are ∙ fresh-hands i)
+  undecided-after = nobody-decided (deal_effect t) (λ i h. ap seat_decided (seat-agrees i).hands_are ∙ fresh-hands i)
 
   deal-agrees : Agrees opening (e ∷ es) (deal_effect t)
   unfolding deal_effect
   deal-agrees =
       record {
         cards = cards-agree;
-        dealt = now_dealt t g.shaped ok;
+        dealt = now-dealt t g.shaped ok;
         seats = seat-agrees;
         drew = undecided-after.0 ∙ sym undecided-before.0 ∙ g.agrees.drew;
         decided = undecided-after.1 ∙ sym undecided-before.1 ∙ g.agrees.decided;

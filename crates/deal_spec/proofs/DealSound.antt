@@ -12,7 +12,7 @@ use borrow.Author.Tests.{ltb-true, ltb-false, lt-ltb}
 use Rattle.lists.specs.Sum.{sum_of, is_it}
 use Rattle.lists.specs.Tests.{any_of}
 use Rattle.lists.specs.Flat.{flat}
-use Rattle.lists.proofs.Sums.{sum-append, sum_flat, sum-none, sum_ones, sum-take}
+use Rattle.lists.proofs.Sums.{sum-append, sum-flat, sum-none, sum_ones, sum-take}
 use Rattle.lists.proofs.Places.{same_taken, taken-same}
 use Rattle.options.specs.Device.{is_box, bank_at_deal}
 use Rattle.payment.specs.Cover.{cover as cover_of, side_cover}
@@ -118,17 +118,17 @@ module _ (t : Table) (shaped : Shaped t) (ok : DealAccepted t) where
       go : Dec (9 ≤ i) → Dec ((seat_at t i).hands.many ≤ 0) → (seat_at t i).hands.many ≡ 0
       go (yes h) d = rw (past i h)
       go (no h) (yes none) = omega arith
-      go (no h) (no some) = absurd (true≢false (sym ((ok.sound.seats i (omega arith)).playing (omega arith)).in-round ∙ ok.between))
+      go (no h) (no some) = absurd (true≢false (sym ((ok.sound.seats i (omega arith)).playing (omega arith)).in_round_lem ∙ ok.between))
 
   pub no_hands_yet : (i p : ℕ) → (guest_of t i p).hands.many ≡ 0
   no_hands_yet i p = ap (λ (x : SeatHands). x.many) (guest-hands (seat_at t i) p) ∙ no_hand_yet i
 
   no-insurance-yet : (i p : ℕ) → insurance (guest_of t i p) ≡ 0
-  no-insurance-yet i p = any_guest_lem t shaped (λ s. insurance s ≡ 0) i p (λ h l. go h l (dec_le (insurance (guest_of t i p)) 0)) (λ s none. none.no-insurance)
+  no-insurance-yet i p = any_guest_lem t shaped (λ s. insurance s ≡ 0) i p (λ h l. go h l (dec_le (insurance (guest_of t i p)) 0)) (λ s none. none.no_insurance)
     where
       go : i < 9 → p < 3 → Dec (insurance (guest_of t i p) ≤ 0) → insurance (guest_of t i p) ≡ 0
       go h l (yes none) = omega arith
-      go h l (no some) = absurd (true≢false (sym (((ok.sound.seats i h).guests p l).insured (omega arith)).in-round ∙ ok.between))
+      go h l (no some) = absurd (true≢false (sym (((ok.sound.seats i h).guests p l).insured (omega arith)).in_round_lem ∙ ok.between))
 
   -- a staked seat is one of the nine
   pub staked-nine : (i : ℕ) → is_staked (seat_at t i) ≡ true → i < 9
@@ -139,7 +139,7 @@ module _ (t : Table) (shaped : Shaped t) (ok : DealAccepted t) where
       go (no h) = omega arith
 
   four : (i : ℕ) → is_staked (seat_at t i) ≡ true → length (seat_at t i).hands.places ≡ 4
-  four i staked = (shaped.seats i (staked-nine i staked)).four-places
+  four i staked = (shaped.seats i (staked-nine i staked)).four_places
 
   four-of : (i p : ℕ) → is_staked (seat_at t i) ≡ true → length (guest_of t i p).hands.places ≡ 4
   four-of i p staked = ap (λ (x : SeatHands). length x.places) (guest-hands (seat_at t i) p) ∙ four i staked
@@ -273,7 +273,7 @@ module _ (t : Table) (shaped : Shaped t) (ok : DealAccepted t) where
         room_discards t shaped.discards ok.sound,
         sum_ones (hand_cards t ++ bank_cards t),
         sum-append (λ x. 1) (hand_cards t) (bank_cards t),
-        sum_flat (λ x. 1) seat_cards t.seats,
+        sum-flat (λ x. 1) seat_cards t.seats,
         no-bank-yet (λ x. 1),
         sum-none (λ s. sum_of (λ x. 1) (seat_cards s)) t.seats missing_seat (λ i h. no_cards_lem (seat_at t i) (no_hand_yet i) (λ x. 1)),
       )
@@ -327,7 +327,7 @@ module _ (t : Table) (shaped : Shaped t) (ok : DealAccepted t) where
   pub deal_shaped : Shaped (deal_effect t)
   unfolding deal_effect
   deal_shaped = record {
-    nine-seats = as_many ∙ shaped.nine-seats;
+    nine_seats_lem = as_many ∙ shaped.nine_seats_lem;
     seats = seat-shaped;
     bank = bank-length t.options (up_card t) (hidden_card t);
     order = shaped.order;
@@ -342,12 +342,12 @@ module _ (t : Table) (shaped : Shaped t) (ok : DealAccepted t) where
         guests = λ p l.
             record {
               beyond = (f.guests p l).beyond;
-              stake-fits = (f.guests p l).stake-fits;
+              stake_fits = (f.guests p l).stake_fits;
               insured = λ some. absurd (omega (arith, no-insurance-yet i p));
-              sides_fit = (f.guests p l).sides-fit;
-              prizes_back = (f.guests p l).prizes-back;
+              sides_fit = (f.guests p l).sides_fit;
+              prizes_back = (f.guests p l).prizes_back;
             };
-        seated_first_lem = f.seated-first;
+        seated_first_lem = f.seated_first_lem;
         waiting = λ empty dealt. omega (arith, ltb-false 0 (stake (seat_at t i)) none);
         playing = λ some. absurd (omega (arith, no_hand_yet i));
       }
@@ -357,20 +357,20 @@ module _ (t : Table) (shaped : Shaped t) (ok : DealAccepted t) where
       dealt_either i (SoundSeat t.options true card i)
       (λ staked.
       dealt-sound (seat_at t i) (four i staked) (first_of t i) (second_of t i)
-      t.options (up t) card i (sound_options t ok.sound).hands-least (ltb-true 0 (stake (seat_at t i)) staked)
+      t.options (up t) card i (sound_options t ok.sound).hands_least (ltb-true 0 (stake (seat_at t i)) staked)
       (rw ok.between at (ok.sound.seats i h)))
       (idle-sound i card h)
 
-  pub now_dealt : is_dealt (deal_effect t) ≡ true
+  pub now-dealt : is_dealt (deal_effect t) ≡ true
   unfolding deal_effect
-  now_dealt = lt-ltb 0 (length (bank_cards (deal_effect t))) (omega (arith, ap length (bank_cards_lem t.options (up_card t) (hidden_card t))))
+  now-dealt = lt-ltb 0 (length (bank_cards (deal_effect t))) (omega (arith, ap length (bank_cards_lem t.options (up_card t) (hidden_card t))))
 
   pub deal-sound : Sound (deal_effect t)
   unfolding deal_effect
   deal-sound = record {
     options = ok.sound.options;
     begun = omega arith;
-    begun-drawn = λ some. refl;
+    begun_drawn = λ some. refl;
     valid = ok.sound.valid;
     drawn = ok.enough;
     discarded = burnt-room;
@@ -378,7 +378,7 @@ module _ (t : Table) (shaped : Shaped t) (ok : DealAccepted t) where
     discards = same_taken (t.shoe.discarded + length burnt_cards) (deal_effect t).shoe.discards t.shoe.order 0 burns-next;
     faces = λ b h. omega (arith, out-cards (is_it b), drawn-cards (is_it b), ok.sound.faces b h);
     number = omega (arith, out-cards (λ x. 1), shoe-takes (deal_takes t) ok.enough, sum_ones (out_cards (deal_effect t)), sum_ones (out_cards t), sum_ones (take (deal_takes t) (table_shoe t)), ok.sound.number);
-    seats = λ i h. rw now_dealt (seat-sound i (up (deal_effect t)) h);
+    seats = λ i h. rw now-dealt (seat-sound i (up (deal_effect t)) h);
     bank = λ some. bank-count t.options (up_card t) (hidden_card t);
     round = λ dealt. some-staked ∙ ok.some;
     money = omega (arith, deal_money, ok.sound.money);

@@ -105,11 +105,11 @@ module _ (s : Seat) (four : length s.hands.places ≡ 4) (a b : ℕ) where
   unfolding with_card
   dealt_shaped shaped =
       record {
-        four-places = length-set s.hands.places 0 (two_cards a b) ∙ four;
-        two-others = shaped.two-others;
-        four-sides = λ p h. ap (λ (x : Seat). length (sides x)) (dealt-guest s a b p) ∙ shaped.four-sides p h;
-        three_first = length-set (set s.first 0 a) 1 b ∙ length-set s.first 0 a ∙ shaped.three-first;
-        twenty_cards = λ p h. holds-set (λ n x. length x.hand.cards ≡ 20) s.hands.places 0 p (two_cards a b) missing_place (omega arith) refl (shaped.twenty-cards p h);
+        four_places = length-set s.hands.places 0 (two_cards a b) ∙ four;
+        two_others = shaped.two_others;
+        four_sides = λ p h. ap (λ (x : Seat). length (sides x)) (dealt-guest s a b p) ∙ shaped.four_sides p h;
+        three_first = length-set (set s.first 0 a) 1 b ∙ length-set s.first 0 a ∙ shaped.three_first;
+        twenty_cards = λ p h. holds-set (λ n x. length x.hand.cards ≡ 20) s.hands.places 0 p (two_cards a b) missing_place (omega arith) refl (shaped.twenty_cards p h);
       }
 
   -- a guest is sound, who was so before the deal, staked or not
@@ -117,9 +117,9 @@ module _ (s : Seat) (four : length s.hands.places ≡ 4) (a b : ℕ) where
   guest-sound o before up i within f =
       record {
         beyond = λ h. absurd (omega arith);
-        stake-fits = f.stake-fits;
-        insured = λ h. absurd (true≢false (sym (f.insured h).in-round));
-        sides_fit = f.sides-fit;
+        stake_fits = f.stake_fits;
+        insured = λ h. absurd (true≢false (sym (f.insured h).in_round_lem));
+        sides_fit = f.sides_fit;
         prizes_back = omega (arith, dealt-prizes o);
       }
 
@@ -131,7 +131,7 @@ module _ (s : Seat) (four : length s.hands.places ≡ 4) (a b : ℕ) where
       (guest-sound (guest_at s p) (ap (λ (x : SeatHands). length x.places) (guest-hands s p) ∙ four) a b o before up i (within (dec_le o.seats i)) (f.guests p h))
     where
       within : Dec (o.seats ≤ i) → i < o.seats
-      within (yes far) = absurd (omega (arith, ((f.guests 0 (omega arith)).beyond far).no-bets.no-stake, ap stake (guest-seated s)))
+      within (yes far) = absurd (omega (arith, ((f.guests 0 (omega arith)).beyond far).no_bets.no_stake_lem, ap stake (guest-seated s)))
       within (no near) = omega arith
 
   pub dealt-sound : (o : Options) (before up i : ℕ) → 2 ≤ o.hands → 0 < stake s → SoundSeat o false before i s → SoundSeat o true up i (dealt_seat s a b)

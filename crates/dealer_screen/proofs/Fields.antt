@@ -156,9 +156,9 @@ darkness t at =
     }
 
 -- no smaller amount is accepted
-insurance-least : (o : Options) (S n : ℕ) → insurance_permitted o S n ≡ true → S / 2 ≤ n
+insurance_least : (o : Options) (S n : ℕ) → insurance_permitted o S n ≡ true → S / 2 ≤ n
 unfolding insurance_permitted
-insurance-least o S n e = go (eqb o.insurance 1) refl
+insurance_least o S n e = go (eqb o.insurance 1) refl
   where
     go : (b : Bool) → eqb o.insurance 1 ≡ b → S / 2 ≤ n
     go true f = omega (arith, div-add-mod' S 2, eqb-true (2 * n) S (simp f at e))
@@ -173,6 +173,6 @@ smallest t at =
       buy = λ n e. (buy-accepted t j p n (eqb-true _ 0 e)).some;
       cash = λ n e. (cash-accepted t j p n (eqb-true _ 0 e)).some;
       stake = λ n e. let permitted = (stake-accepted t j p n (eqb-true _ 0 e)).permitted in leb-true t.options.smallest n (and_at (leb t.options.smallest n ∷ leb n t.options.largest ∷ is_even_number n ∷ []) permitted 0);
-      insure = λ n e. insurance-least t.options (stake (guest_of t j p)) n (insure-accepted t j p n (eqb-true _ 0 e)).permitted;
+      insure = λ n e. insurance_least t.options (stake (guest_of t j p)) n (insure-accepted t j p n (eqb-true _ 0 e)).permitted;
       side = λ k n e. (side-accepted t j p k n (eqb-true _ 0 e)).some;
     }

@@ -46,7 +46,7 @@ module _ (f : Played → Bool) (seat : ℕ) where
       go false same later =
           let some : any_of f (map played_of hs) ≡ true = rw same at e in
           let behind = later some in
-          rw same (record { seat_is = behind.seat-is; place_is = behind.place_is ∙ omega arith })
+          rw same (record { seat_is = behind.seat_is; place_is = behind.place_is ∙ omega arith })
 
 module _ (o : Options) (card : ℕ) where
   first-seat : (i : ℕ) (seats : List Seat) (rest : List Row) → any_of (seat_waits o card) (map hands seats) ≡ true
@@ -65,7 +65,7 @@ module _ (o : Options) (card : ℕ) where
           let rows = append_assoc (seat_rows true o card i s) (rows_from true o card (suc i) ss) rest in
           rw same
           (record {
-            seat_is = ap (λ (l : List Row). (get_or l 0 no_row).seat) rows ∙ here.seat-is ∙ sym (add-zero i);
+            seat_is = ap (λ (l : List Row). (get_or l 0 no_row).seat) rows ∙ here.seat_is ∙ sym (add-zero i);
             place_is = ap (λ (l : List Row). (get_or l 0 no_row).place) rows ∙ here.place_is ∙ zero-add (waiting_place o card (hands s));
           })
       go false same later =
@@ -77,7 +77,7 @@ module _ (o : Options) (card : ℕ) where
           let moved : suc i + first_place (seat_waits o card) (map hands ss) ≡ i + suc (first_place (seat_waits o card) (map hands ss)) = omega arith in
           rw same
           (record {
-            seat_is = ap (λ (l : List Row). (get_or l 0 no_row).seat) rows ∙ behind.seat-is ∙ moved;
+            seat_is = ap (λ (l : List Row). (get_or l 0 no_row).seat) rows ∙ behind.seat_is ∙ moved;
             place_is = ap (λ (l : List Row). (get_or l 0 no_row).place) rows ∙ behind.place_is;
           })
 
@@ -87,6 +87,6 @@ turn-first t whole some =
     let begins = first-seat t.options (up t) 0 t.seats (table_rows false t) some in
     let rows : all_rows t ≡ table_rows true t ++ table_rows false t = ap (λ (d : Bool). cond d [] (table_rows true t ++ table_rows false t)) whole in
     record {
-      seat = ap (λ (l : List Row). (get_or l 0 no_row).seat) rows ∙ begins.seat-is ∙ zero-add (seat_in_turn t);
+      seat = ap (λ (l : List Row). (get_or l 0 no_row).seat) rows ∙ begins.seat_is ∙ zero-add (seat_in_turn t);
       place = ap (λ (l : List Row). (get_or l 0 no_row).place) rows ∙ begins.place_is;
     }

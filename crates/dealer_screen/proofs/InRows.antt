@@ -12,7 +12,7 @@ use lib.Seq.{get_or-take}
 use borrow.Author.Tests.{eq-eqb, ne_eqb, ltb-true, lt-ltb, le-ltb}
 use Rattle.lists.specs.Tests.{those}
 use Rattle.lists.proofs.Tests.{cond_same}
-use Rattle.lists.proofs.Numbered.{those_append, those_numbered}
+use Rattle.lists.proofs.Numbered.{those-append, those_numbered}
 use Rattle.options.specs.declared.Options.{Options}
 use Rattle.rules.specs.declared.seat_hand.SeatHand.{SeatHand}
 use Rattle.rules.specs.SeatHand.{played_of}
@@ -47,7 +47,7 @@ module _ (passes : SeatHand → Bool) (seat place : ℕ) where
   unfolding place_rows those
   other-places j p [] apart = refl
   other-places j p (h ∷ hs) apart =
-      those_append (names seat place) (cond (passes h) (row j p h ∷ []) []) (place_rows passes j (suc p) hs)
+      those-append (names seat place) (cond (passes h) (row j p h ∷ []) []) (place_rows passes j (suc p) hs)
       ∙ rw (one-row (passes h) (row j p h), other-places j (suc p) hs apart, ne_eqb seat j (λ e. apart (sym e))) refl
 
 module _ (waiting : Bool) (o : Options) (card : ℕ) (seat place : ℕ) where
@@ -104,6 +104,6 @@ each_once_lem t whole seat place =
     let s = seat_at t seat in
     let h = get_or s.hands.places place missing_place in
     ap (λ (d : Bool). those (names seat place) (cond d [] (table_rows true t ++ table_rows false t))) whole
-    ∙ those_append (names seat place) (table_rows true t) (table_rows false t)
+    ∙ those-append (names seat place) (table_rows true t) (table_rows false t)
     ∙ rw (of-table true o (up t) seat place t.seats, of-table false o (up t) seat place t.seats)
     (both (ltb seat (length t.seats)) (ltb place (length (hands s))) (hand_waits o (up t) s h) (row seat place h) ∙ beyond t.seats seat place (row seat place h))

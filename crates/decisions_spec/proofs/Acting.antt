@@ -48,7 +48,7 @@ acting t j p whole in_round_lem such-seat such-position staked =
         omega (
           arith,
           ltb-true 0 (stake (guest_of t j p)) (not-false (is_staked (guest_of t j p)) staked),
-          ((unbroken t whole).seats j (seat_of-nine t j whole such-seat)).seated-first p (leb-false 3 p such-position) (omega arith),
+          ((unbroken t whole).seats j (seat_of-nine t j whole such-seat)).seated_first_lem p (leb-false 3 p such-position) (omega arith),
         )
 
 -- its hands, and its hand at p, which waits
@@ -80,7 +80,7 @@ module _ (t : Table) (shaped : Shaped t) (sound : Sound t) (j : ℕ) (act : Acti
         acting = act;
         shaped = shaped.seats j act.nine;
         some = some;
-        few = omega (arith, (was.playing some).within, (in_range_facts t.options sound.options).hands-most);
+        few = omega (arith, (was.playing some).within, (in_range_facts t.options sound.options).hands_most);
         playing = was.playing some;
       }
     where
@@ -94,7 +94,7 @@ module _ (t : Table) (shaped : Shaped t) (sound : Sound t) (j : ℕ) (act : Acti
       let s = seat_at t j in
       let test = waits t.options (up t) (length (hands s)) in
       let inside : waiting_place_of t j < length (hands s) = ltb-true _ _ (first_inside test (hands s) ∙ some) in
-      let here : waiting_place_of t j < s.hands.many = omega (arith, many_hands s.hands staked_seat.shaped.four-places) in
+      let here : waiting_place_of t j < s.hands.many = omega (arith, many_hands s.hands staked_seat.shaped.four_places) in
       let waiting : waits t.options (up t) (length (hands s)) (played_of (place_of s (waiting_place_of t j))) ≡ true =
       ap (waits t.options (up t) (length (hands s))) (sym (hand_at s.hands (waiting_place_of t j) missing_place here)) ∙ first_passes test (hands s) (played_of missing_place) inside in
       record { seat = staked_seat; here = here; not_ended_lem = waits_open t (length (hands s)) (played_of (place_of s (waiting_place_of t j))) waiting }

@@ -23,7 +23,7 @@ use Rattle.rules.specs.Waits.{waits}
 use Rattle.rules.specs.Permits.{takes_cards}
 use Rattle.payment.specs.Wager.{wager}
 use Rattle.payment.specs.Prize.{prize, most_prize}
-use Rattle.payment.proofs.Bounds.{wager_single, prize-none, prize-most}
+use Rattle.payment.proofs.Bounds.{wager_single, prize-none, prize_most}
 use Rattle.history.specs.Entry.{Entry, is_draw, is_double, is_split}
 use Rattle.history.specs.Cards.{Cards, call_takes}
 use Rattle.history.specs.Hands.{played, missing_hand, next_card}
@@ -90,14 +90,14 @@ module _ (o : Options) (up many : ℕ) (h : SeatHand) (card code : ℕ) (full : 
   more-origin : sound_origin many (played (cards_of (with_card h.hand card)) h.origin code) ≡ true
   unfolding sound_origin
   more-origin =
-      let some : 0 < length (cards_of h.hand) = omega (arith, length-take h.hand.count h.hand.cards, sound.two-cards) in
+      let some : 0 < length (cards_of h.hand) = omega (arith, length-take h.hand.count h.hand.cards, sound.two_cards_lem) in
       rw (more-cards, get_or-append (cards_of h.hand) (card ∷ []) 0 0) sound.origin
 
   more-sound : sound_ending o up many (played (cards_of (with_card h.hand card)) h.origin code) ≡ true
       → SoundHand o up many (record { hand = with_card h.hand card; origin = h.origin; ended = code })
   more-sound fits =
       record {
-        two_cards_lem = omega (arith, with_card-count h.hand card room, sound.two-cards);
+        two_cards_lem = omega (arith, with_card-count h.hand card room, sound.two_cards_lem);
         twenty_cards = omega (arith, with_card-count h.hand card room, room);
         played = rw more-cards (played_more (cards_of h.hand) card sound.played below);
         origin = more-origin;
@@ -133,22 +133,22 @@ module _ (t : Table) (e : Entry) (j times code : ℕ) (shaped : Shaped t) (sound
   pays : Pays pays-card more won (seat_at t j)
   pays =
       record {
-        two = w.seat.shaped.two-others;
+        two = w.seat.shaped.two_others;
         keeps = λ m. refl;
         moves = λ m has. omega arith;
-        lays-none = omega arith;
-        wins-none = omega (arith, prize-most t.options 0 winner);
-        enough = a.purse-has;
+        lays_none = omega arith;
+        wins_none = omega (arith, prize_most t.options 0 winner);
+        enough = a.purse_has;
       }
 
   each : (q : ℕ) → (guest_at paid-seat q).money ≡ pays-card (guest_of t j q).money
   each = all-pay pays-card more won (seat_at t j) pays
 
   full : length (waiting_hand_of t j).hand.cards ≡ 20
-  full = w.seat.shaped.twenty-cards (waiting_place_of t j) (omega (arith, w.here, w.seat.few))
+  full = w.seat.shaped.twenty_cards (waiting_place_of t j) (omega (arith, w.here, w.seat.few))
 
   was : SoundHand t.options (up t) (seat_at t j).hands.many (waiting_hand_of t j)
-  was = w.seat.playing.each (waiting_place_of t j) w.here (omega (arith, w.here, w.seat.few, w.seat.shaped.four-places))
+  was = w.seat.playing.each (waiting_place_of t j) w.here (omega (arith, w.here, w.seat.few, w.seat.shaped.four_places))
 
   cards : cards_of (grown_hand t j code).hand ≡ cards_of (waiting_hand_of t j).hand ++ (card_ahead t 0 ∷ [])
   cards = more-cards t.options (up t) (seat_at t j).hands.many (waiting_hand_of t j) (card_ahead t 0) code full was a.below
@@ -165,7 +165,7 @@ module _ (t : Table) (e : Entry) (j times code : ℕ) (shaped : Shaped t) (sound
       let o = t.options in
       let hs = hands (seat_at t j) in
       let h = played_of (waiting_hand_of t j) in
-      g.wins-it o c S hs h (ap (λ (b : List ℕ). get_or hs (waiting_place o (get_or b 0 0) hs) missing_hand) (sym agree.bank) ∙ same-hand) w.not-ended
+      g.wins_it o c S hs h (ap (λ (b : List ℕ). get_or hs (waiting_place o (get_or b 0 0) hs) missing_hand) (sym agree.bank) ∙ same-hand) w.not_ended_lem
       ∙ ap (λ (xs : List ℕ). prize o S (played xs h.origin code)) (history-cards c agree)
 
   -- the hand has three cards or more
@@ -178,30 +178,30 @@ module _ (t : Table) (e : Entry) (j times code : ℕ) (shaped : Shaped t) (sound
       let inside : p < length (hands s) = omega (arith, how_many s p w.seat.shaped w.seat.few w.here, w.here) in
       drawing e (hands s) (set (hands s) p new) (simp g.gives)
       (drew_cards (hands s) p new missing_hand inside
-      (λ two. omega (arith, full, was.two-cards, was.twenty-cards, length-take h.count h.cards, simp length-append at (ap length cards))))
+      (λ two. omega (arith, full, was.two_cards_lem, was.twenty_cards, length-take h.count h.cards, simp length-append at (ap length cards))))
 
   card-change : HandChange t e j (waiting_place_of t j) (t.tray - all-won) paid-seat.money paid-seat.others (grown_hand t j code) (with_drawn t.shoe 1) 1 more won
   card-change =
       let s = seat_at t j in
       let h = waiting_hand_of t j in
       let new = grown_hand t j code in
-      let most : (q : ℕ) → won (stake (guest_of t j q)) ≤ most_prize (stake (guest_of t j q)) = λ q. prize-most t.options (stake (guest_of t j q)) winner in
+      let most : (q : ℕ) → won (stake (guest_of t j q)) ≤ most_prize (stake (guest_of t j q)) = λ q. prize_most t.options (stake (guest_of t j q)) winner in
       record {
         deciding = g.deciding;
-        no_split = g.no-split;
+        no_split = g.no_split;
         as_many = length-map s.others pays-card;
         same_money = paid_money pays-card more won s pays paid-seat each;
         full = more-full t.options (up t) s.hands.many h (card_ahead t 0) code full was a.below;
         sound_hand_lem = more-sound t.options (up t) s.hands.many h (card_ahead t 0) code full was a.below (a.fits cards);
         turn_is = λ in_turn_lem. turn;
-        decides = λ c agree. g.decides c (played_of h) same-hand w.not-ended ∙ ap (λ (xs : List ℕ). set (hands s) (waiting_place_of t j) (played xs h.origin code)) (history-cards c agree);
+        decides = λ c agree. g.decides c (played_of h) same-hand w.not_ended_lem ∙ ap (λ (xs : List ℕ). set (hands s) (waiting_place_of t j) (played xs h.origin code)) (history-cards c agree);
         events = card-events;
-        lays_it = g.lays-it;
+        lays_it = g.lays_it;
         wins_it = wins-won;
-        wager_grows = λ S. omega (arith, g.wager-is S (played_of new) refl, wager_single S (played_of h) (λ b. omega (arith, w.not-ended)));
+        wager_grows = λ S. omega (arith, g.wager_is S (played_of new) refl, wager_single S (played_of h) (λ b. omega (arith, w.not_ended_lem)));
         prize_grows = λ S. omega (arith, prize-none t.options S (played_of h) (no_prize_below_21 (cards_of h.hand) a.below));
         purse_pays = paid_purse_lem pays-card more won s pays paid-seat each;
-        tray_pays = omega (arith, most 0, most 1, most 2, tray_covers t shaped.nine-seats sound w.seat.acting.dealt j w.seat.acting.nine);
+        tray_pays = omega (arith, most 0, most 1, most 2, tray_covers t shaped.nine_seats_lem sound w.seat.acting.dealt j w.seat.acting.nine);
         draws = draws_some t 1 a.left (omega arith);
         takes = g.takes;
         cards_grow = λ v.

@@ -70,7 +70,7 @@ module _ (e : Entry) (j : ℕ) (g : Deciding e j) where
   no_deal = not_deal e g.among refl
 
   pub of_seat : is_of j e ≡ true
-  of_seat = eq-eqb (seat e.call) j g.seat-is
+  of_seat = eq-eqb (seat e.call) j g.seat_is
 
   of_other : (i : ℕ) → (i ≡ j → ⊥) → is_of i e ≡ false
   of_other i other = ne_eqb (seat e.call) i (λ h. other (omega arith))
@@ -81,7 +81,7 @@ module _ (e : Entry) (j : ℕ) (g : Deciding e j) where
     stake-after p = simp (no_end, not_stake e g.among refl)
 
     insurance-after : (p : ℕ) → insurance_in (e ∷ es) j p ≡ insurance_in es j p
-    insurance-after p = simp (no_end, g.no-insure)
+    insurance-after p = simp (no_end, g.no_insure)
 
     -- a decision in turn goes to the seat, and no other seat's hands change
     module _ (goes : is_surrender e ≡ false → turn_in o (cards_of_history o opening es) (λ k. hands_in o opening es k) ≡ j) where
@@ -135,18 +135,18 @@ module _ (e : Entry) (j : ℕ) (g : Deciding e j) where
 
 -- k cards are drawn and go elsewhere
 pub record Draws (t : Table) (shoe : Shoe) (k : ℕ) : Type 0 where
-  pub same-order : shoe.order ≡ t.shoe.order
+  pub same_order : shoe.order ≡ t.shoe.order
   pub same_discards : shoe.discards ≡ t.shoe.discards
   pub same_discarded : shoe.discarded ≡ t.shoe.discarded
   pub more_drawn : shoe.drawn ≡ t.shoe.drawn + k
-  pub same-begun : shoe.begun ≡ t.shoe.begun
+  pub same_begun : shoe.begun ≡ t.shoe.begun
   pub enough : t.shoe.drawn + k ≤ 52 * t.options.decks
 
 pub draws-none : (t : Table) → Sound t → Draws t t.shoe 0
-draws-none t sound = record { same-order = refl; same_discards = refl; same_discarded = refl; more_drawn = omega arith; same-begun = refl; enough = omega (arith, sound.drawn) }
+draws-none t sound = record { same_order = refl; same_discards = refl; same_discarded = refl; more_drawn = omega arith; same_begun = refl; enough = omega (arith, sound.drawn) }
 
 pub draws_some : (t : Table) (k : ℕ) → k ≤ cards_left t → 0 < k → Draws t (with_drawn t.shoe k) k
-draws_some t k left some = record { same-order = refl; same_discards = refl; same_discarded = refl; more_drawn = refl; same-begun = refl; enough = omega arith }
+draws_some t k left some = record { same_order = refl; same_discards = refl; same_discarded = refl; more_drawn = refl; same_begun = refl; enough = omega arith }
 
 -- A guest whose purse alone changes is as sound as it was, where the purse and what it laid can give its prizes back.
 other_purse : (o : Options) (in_round : Bool) (up i : ℕ) (r s : Seat) → r.money ≡ with_purse s.money (purse r) → i < o.seats → prizes o r ≤ purse r + laid r
@@ -155,22 +155,22 @@ other_purse : (o : Options) (in_round : Bool) (up i : ℕ) (r s : Seat) → r.mo
 other_purse o in_round up i r s same within back was =
     record {
       beyond = λ h. absurd (omega arith);
-      stake-fits = λ some. rw same-stake (was.stake-fits (omega (arith, same-stake)));
+      stake_fits = λ some. rw same_stake (was.stake_fits (omega (arith, same_stake)));
       insured = λ some.
-          let f = was.insured (omega (arith, same-insurance)) in
-          record { in_round_lem = f.in-round; ace-up = f.ace-up; staked = omega (arith, same-stake, f.staked); permitted = rw (same-stake, same-insurance) f.permitted };
+          let f = was.insured (omega (arith, same_insurance)) in
+          record { in_round_lem = f.in_round_lem; ace_up = f.ace_up; staked = omega (arith, same_stake, f.staked); permitted = rw (same_stake, same_insurance) f.permitted };
       sides_fit = λ k h some.
           let same-side : get_or (sides r) k 0 ≡ get_or (sides s) k 0 = ap (λ (m : Money). get_or m.sides k 0) same in
-          let (staked, most) = was.sides-fit k h (omega arith) in
-          (omega (arith, same-stake), omega arith);
+          let (staked, most) = was.sides_fit k h (omega arith) in
+          (omega (arith, same_stake), omega arith);
       prizes_back = back;
     }
   where
-    same-stake : stake r ≡ stake s
-    same-stake = ap (λ (m : Money). m.stake) same
+    same_stake : stake r ≡ stake s
+    same_stake = ap (λ (m : Money). m.stake) same
 
-    same-insurance : insurance r ≡ insurance s
-    same-insurance = ap (λ (m : Money). m.insurance) same
+    same_insurance : insurance r ≡ insurance s
+    same_insurance = ap (λ (m : Money). m.insurance) same
 
 -- What a decision gives: of each guest of the seat, by its own stake, and of the hands, which are all of them's.
 pub record Decided (t : Table) (e : Entry) (j tray : ℕ) (s : Seat) (shoe : Shoe) (k : ℕ) (more won : ℕ → ℕ) : Type 0 where
@@ -192,61 +192,61 @@ pub record Decided (t : Table) (e : Entry) (j tray : ℕ) (s : Seat) (shoe : Sho
   pub tray_pays : tray + over_guests (λ g. won (stake g)) (seat_at t j) ≡ t.tray
   pub draws : Draws t shoe k
   pub takes : (staked : ℕ) (c : Cards) → call_takes t.options staked c e ≡ k
-  pub cards-moved : (w : ℕ → ℕ) → sum_of w (seat_cards s) ≡ sum_of w (seat_cards (seat_at t j)) + sum_of w (take k (table_shoe t))
+  pub cards_moved : (w : ℕ → ℕ) → sum_of w (seat_cards s) ≡ sum_of w (seat_cards (seat_at t j)) + sum_of w (take k (table_shoe t))
 
 module _ (t : Table) (e : Entry) (j tray : ℕ) (s : Seat) (shoe : Shoe) (k : ℕ) (more won : ℕ → ℕ) (sound : Sound t) (d : Decided t e j tray s shoe k more won) where
   was : SoundSeat t.options (is_dealt t) (up t) j (seat_at t j)
   was = sound.seats j d.acting.nine
 
-  same-stake : (p : ℕ) → stake (guest_at s p) ≡ stake (guest_of t j p)
-  same-stake p = ap (λ (m : Money). m.stake) (d.same-money p)
+  same_stake : (p : ℕ) → stake (guest_at s p) ≡ stake (guest_of t j p)
+  same_stake p = ap (λ (m : Money). m.stake) (d.same_money p)
 
   same-seated : stake s ≡ stake (seat_at t j)
-  same-seated = ap stake (sym (guest-seated s)) ∙ same-stake 0 ∙ ap stake (guest-seated (seat_at t j))
+  same-seated = ap stake (sym (guest-seated s)) ∙ same_stake 0 ∙ ap stake (guest-seated (seat_at t j))
 
   sound_guest_lem : (p : ℕ) → p < 3 → SoundGuest t.options (is_dealt t) (up t) j (guest_at s p)
   sound_guest_lem p h =
-      other_purse t.options (is_dealt t) (up t) j (guest_at s p) (guest_of t j p) (d.same-money p) d.acting.within
-      (omega (arith, d.prizes-grow p, d.purse-pays p, d.laid-grows p, (was.guests p h).prizes-back)) (was.guests p h)
+      other_purse t.options (is_dealt t) (up t) j (guest_at s p) (guest_of t j p) (d.same_money p) d.acting.within
+      (omega (arith, d.prizes_grow p, d.purse_pays p, d.laid_grows p, (was.guests p h).prizes_back)) (was.guests p h)
 
-  same-cover : (p : ℕ) → seat_cover (guest_at s p) ≡ seat_cover (guest_of t j p)
-  same-cover p = ap (λ (m : Money). cover m.stake + side_cover m.sides) (d.same-money p)
+  same_cover : (p : ℕ) → seat_cover (guest_at s p) ≡ seat_cover (guest_of t j p)
+  same_cover p = ap (λ (m : Money). cover m.stake + side_cover m.sides) (d.same_money p)
 
   change : SeatChange t j tray s shoe k 0 0
   change =
       record {
         within = d.acting.within;
-        shaped_seat = d.shaped-seat;
+        shaped_seat = d.shaped_seat;
         sound_seat_lem =
             record {
               guests = sound_guest_lem;
-              seated_first_lem = λ p h none. same-stake p ∙ was.seated-first p h (omega (arith, same-seated));
+              seated_first_lem = λ p h none. same_stake p ∙ was.seated_first_lem p h (omega (arith, same-seated));
               waiting = λ none dealt. absurd (omega arith);
               playing = λ some. d.playing;
             };
-        same-staked = λ dealt. ap (ltb 0) same-seated;
-        same-cover = λ dealt. omega (arith, same-cover 0, same-cover 1, same-cover 2);
+        same_staked = λ dealt. ap (ltb 0) same-seated;
+        same_cover = λ dealt. omega (arith, same_cover 0, same_cover 1, same_cover 2);
         paid =
             omega (
               arith,
-              d.laid-grows 0,
-              d.laid-grows 1,
-              d.laid-grows 2,
-              d.purse-pays 0,
-              d.purse-pays 1,
-              d.purse-pays 2,
-              d.tray-pays,
+              d.laid_grows 0,
+              d.laid_grows 1,
+              d.laid_grows 2,
+              d.purse_pays 0,
+              d.purse_pays 1,
+              d.purse_pays 2,
+              d.tray_pays,
             );
         in_limit = omega (arith, sound.money);
-        prizes_paid = λ dealt. omega (arith, d.prizes-grow 0, d.prizes-grow 1, d.prizes-grow 2, d.tray-pays);
-        same-order = d.draws.same-order;
-        same_discards = d.draws.same-discards;
-        same_discarded = d.draws.same-discarded;
-        more_drawn = d.draws.more-drawn;
-        same-begun = d.draws.same-begun;
+        prizes_paid = λ dealt. omega (arith, d.prizes_grow 0, d.prizes_grow 1, d.prizes_grow 2, d.tray_pays);
+        same_order = d.draws.same_order;
+        same_discards = d.draws.same_discards;
+        same_discarded = d.draws.same_discarded;
+        more_drawn = d.draws.more_drawn;
+        same_begun = d.draws.same_begun;
         drawn_before = λ some. dealt-drawn t sound d.acting.dealt;
         enough = d.draws.enough;
-        cards-moved = d.cards-moved;
+        cards_moved = d.cards_moved;
       }
 
 module _ (opening : List ℕ) (es : List Entry) (t : Table) (e : Entry) (j tray : ℕ) (s : Seat) (shoe : Shoe) (k : ℕ) (more won : ℕ → ℕ) (good : Good opening es t) (d : Decided t e j tray s shoe k more won) where
@@ -255,20 +255,20 @@ module _ (opening : List ℕ) (es : List Entry) (t : Table) (e : Entry) (j tray 
   history = good.agrees.seats j
 
   lays-history : (p : ℕ) → lays j p (stake_in es j p) e ≡ more (stake (guest_of t j p))
-  lays-history p = d.lays-it p (stake_in es j p) ∙ ap more (sym (history.guests p).stake-is)
+  lays-history p = d.lays_it p (stake_in es j p) ∙ ap more (sym (history.guests p).stake_is)
 
   wins-history : (p : ℕ) → prize_of t.options opening es j p e ≡ won (stake (guest_of t j p))
   wins-history p =
       let c = cards_of_history t.options opening es in
-      ap₂ (λ (S : ℕ) (hs : List Played). wins t.options c j S hs e) (sym (history.guests p).stake-is) (sym history.hands-are)
-      ∙ d.wins-it c good.agrees.cards (stake (guest_of t j p))
+      ap₂ (λ (S : ℕ) (hs : List Played). wins t.options c j S hs e) (sym (history.guests p).stake_is) (sym history.hands_are)
+      ∙ d.wins_it c good.agrees.cards (stake (guest_of t j p))
 
   hands-history : (c : Cards) → CardsAgree c t
       → hands s ≡ makes (hands_in t.options opening es j) (waiting_place t.options (get_or c.bank 0 0) (hands_in t.options opening es j)) c e
   hands-history c agree =
-      d.hands-are c agree
+      d.hands_are c agree
       ∙ ap (λ (b : List ℕ). makes (hands (seat_at t j)) (waiting_place t.options (get_or b 0 0) (hands (seat_at t j))) c e) agree.bank
-      ∙ ap (λ (hs : List Played). makes hs (waiting_place t.options (get_or c.bank 0 0) hs) c e) history.hands-are
+      ∙ ap (λ (hs : List Played). makes hs (waiting_place t.options (get_or c.bank 0 0) hs) c e) history.hands_are
 
   goes : is_surrender e ≡ false → turn_in t.options (cards_of_history t.options opening es) (λ k. hands_in t.options opening es k) ≡ j
   goes in_turn_lem = history_turn opening es t good.agrees j (d.turn_is in_turn_lem)
@@ -277,29 +277,29 @@ module _ (opening : List ℕ) (es : List Entry) (t : Table) (e : Entry) (j tray 
   first-history : (c : Cards) → CardsAgree c t → first_cards s ≡ keeps (hands_in t.options opening es j) (first_in t.options opening es j) c e
   first-history c agree =
       let seat = staked_seat t good.shaped good.sound j d.acting in
-      let some : 0 < length (hands (seat_at t j)) = omega (arith, many_hands (seat_at t j).hands seat.shaped.four-places, seat.some, seat.few) in
-      d.first-is c agree ∙ ap₂ (λ (hs : List Played) (first : List ℕ). keeps hs first c e) history.hands-are (history.first-is some)
+      let some : 0 < length (hands (seat_at t j)) = omega (arith, many_hands (seat_at t j).hands seat.shaped.four_places, seat.some, seat.few) in
+      d.first_is c agree ∙ ap₂ (λ (hs : List Played) (first : List ℕ). keeps hs first c e) history.hands_are (history.first_is some)
 
   guest-agrees : (p : ℕ) → GuestAgrees t.options opening (e ∷ es) j p (guest_at s p)
   guest-agrees p =
       let o = t.options in
       let was = history.guests p in
       record {
-        stake_is = ap (λ (m : Money). m.stake) (d.same-money p) ∙ was.stake-is ∙ sym (stake-after e j d.deciding o opening es p);
-        insurance_is = ap (λ (m : Money). m.insurance) (d.same-money p) ∙ was.insurance-is ∙ sym (insurance-after e j d.deciding o opening es p);
+        stake_is = ap (λ (m : Money). m.stake) (d.same_money p) ∙ was.stake_is ∙ sym (stake-after e j d.deciding o opening es p);
+        insurance_is = ap (λ (m : Money). m.insurance) (d.same_money p) ∙ was.insurance_is ∙ sym (insurance-after e j d.deciding o opening es p);
         sides_are = λ k h.
-            ap (λ (m : Money). get_or m.sides k 0) (d.same-money p)
-            ∙ was.sides-are k h
+            ap (λ (m : Money). get_or m.sides k 0) (d.same_money p)
+            ∙ was.sides_are k h
             ∙ sym (sides_stay es j p e (not_end e d.deciding.among refl) (not_side e d.deciding.among refl) k h);
-        laid-is =
-            let l : laid (guest_at s p) ≡ lays j p (stake_in es j p) e + laid_in es j p = omega (arith, d.laid-grows p, was.laid-is, lays-history p) in
+        laid_is =
+            let l : laid (guest_at s p) ≡ lays j p (stake_in es j p) e + laid_in es j p = omega (arith, d.laid_grows p, was.laid_is, lays-history p) in
             l ∙ sym (laid-after e j d.deciding o opening es p);
         prizes_are =
-            let w : prizes o (guest_at s p) ≡ prize_of o opening es j p e + prizes_in o opening es j p = omega (arith, d.prizes-grow p, was.prizes-are, wins-history p) in
+            let w : prizes o (guest_at s p) ≡ prize_of o opening es j p e + prizes_in o opening es j p = omega (arith, d.prizes_grow p, was.prizes_are, wins-history p) in
             w ∙ sym (prizes-after e j d.deciding o opening es p);
         purse_is =
-            purse-after e j d.deciding o opening es p (purse (guest_of t j p)) (purse (guest_at s p)) was.purse-is
-            (omega (arith, d.purse-pays p, lays-history p, wins-history p));
+            purse-after e j d.deciding o opening es p (purse (guest_of t j p)) (purse (guest_at s p)) was.purse_is
+            (omega (arith, d.purse_pays p, lays-history p, wins-history p));
       }
 
   seat-agrees : SeatAgrees t.options opening (e ∷ es) j s
@@ -320,8 +320,8 @@ module _ (opening : List ℕ) (es : List Entry) (t : Table) (e : Entry) (j tray 
         not_load = not_load e among refl;
         of_other = of_other e j d.deciding;
         takes = d.takes (staked_below es t.options.seats) (cards_of_history t.options opening es);
-        same-order = d.draws.same-order;
-        more_drawn = d.draws.more-drawn;
+        same_order = d.draws.same_order;
+        more_drawn = d.draws.more_drawn;
         others = hands-others e j d.deciding t.options opening es goes;
         first-others = first-others e j d.deciding t.options opening es goes;
         events = d.events;

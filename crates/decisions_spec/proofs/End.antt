@@ -41,7 +41,7 @@ ended-seat t j p code = with_place (seat_at t j) p (ended_by (place_of (seat_at 
 pub record Ends (t : Table) (e : Entry) (j p code : ℕ) : Type 0 where
   pub deciding : Deciding e j
   pub plain : is_drawing e ≡ false
-  pub ends-one : is_decision e ≡ true
+  pub ends_one : is_decision e ≡ true
   pub decides : (c : Cards) → makes (hands (seat_at t j)) (waiting_place_of t j) c e ≡ set (hands (seat_at t j)) p (finished (get_or (hands (seat_at t j)) p missing_hand) code)
   pub some_code : 0 < code
   pub fits : sound_ending t.options (up t) (seat_at t j).hands.many (played_of (ended_by (place_of (seat_at t j) p) code)) ≡ true
@@ -51,11 +51,11 @@ module _ (t : Table) (e : Entry) (j p code : ℕ) (d : Ends t e j p code) where
   plains : (is_draw e ≡ false) × (is_double e ≡ false) × (is_split e ≡ false)
   plains = not_drawing e d.plain
 
-  lays-none : (q S : ℕ) → lays j q S e ≡ 0
+  lays_none : (q S : ℕ) → lays j q S e ≡ 0
   unfolding lays
-  lays-none q S =
+  lays_none q S =
       let among = d.deciding.among in
-      simp (not_stake e among refl, not_side e among refl, d.deciding.no-insure, plains.1, plains.2, and-false, of_seat e j d.deciding)
+      simp (not_stake e among refl, not_side e among refl, d.deciding.no_insure, plains.1, plains.2, and-false, of_seat e j d.deciding)
 
   takes_none : (staked : ℕ) (c : Cards) → call_takes t.options staked c e ≡ 0
   unfolding call_takes
@@ -68,9 +68,9 @@ module _ (t : Table) (e : Entry) (j p code : ℕ) (d : Ends t e j p code) where
       let new = played_of (ended_by (place_of (seat_at t j) p) code) in
       let old = hand_is (seat_at t j) p w.seat.shaped w.seat.few w.here in
       let inside : p < length hs = omega (arith, how_many (seat_at t j) p w.seat.shaped w.seat.few w.here, w.here) in
-      ending e hs (set hs p new) d.plain d.ends-one
+      ending e hs (set hs p new) d.plain d.ends_one
       (drew_same hs p new missing_hand (ap (λ (x : Played). x.cards) (sym old)))
-      (any_set_or (λ x. ltb 0 x.ended) hs p new missing_hand true inside (lt-ltb 0 code d.some-code))
+      (any_set_or (λ x. ltb 0 x.ended) hs p new missing_hand true inside (lt-ltb 0 code d.some_code))
 
   end-change : Sound t → (is_surrender e ≡ false → TurnAccepted t j) → Waiting t j p → HandChange t e j p t.tray (seat_at t j).money (seat_at t j).others (ended_by (place_of (seat_at t j) p) code) t.shoe 0 (λ S. 0) (λ S. 0)
   unfolding wins sum_of sound_origin
@@ -78,21 +78,21 @@ module _ (t : Table) (e : Entry) (j p code : ℕ) (d : Ends t e j p code) where
       let s = seat_at t j in
       let h = place_of s p in
       let new = ended_by h code in
-      let was = w.seat.playing.each p w.here (omega (arith, w.here, w.seat.few, w.seat.shaped.four-places)) in
+      let was = w.seat.playing.each p w.here (omega (arith, w.here, w.seat.few, w.seat.shaped.four_places)) in
       let single : (S : ℕ) → wager S (played_of new) ≡ S = λ S. wager_single S (played_of new) d.single in
-      let was-single : (S : ℕ) → wager S (played_of h) ≡ S = λ S. wager_single S (played_of h) (λ b. omega (arith, w.not-ended)) in
+      let was-single : (S : ℕ) → wager S (played_of h) ≡ S = λ S. wager_single S (played_of h) (λ b. omega (arith, w.not_ended_lem)) in
       record {
         deciding = d.deciding;
         no_split = plains.2;
         as_many = refl;
         same_money = λ q. refl;
-        full = w.seat.shaped.twenty-cards p (omega arith);
-        sound_hand_lem = record { two_cards_lem = was.two-cards; twenty_cards = was.twenty-cards; played = was.played; origin = was.origin; ended = d.fits };
+        full = w.seat.shaped.twenty_cards p (omega arith);
+        sound_hand_lem = record { two_cards_lem = was.two_cards_lem; twenty_cards = was.twenty_cards; played = was.played; origin = was.origin; ended = d.fits };
         turn_is = turn;
         decides =
             λ c agree. d.decides c ∙ ap (λ (x : Played). set (hands s) p (finished x code)) (hand_is s p w.seat.shaped w.seat.few w.here);
         events = end-events w;
-        lays_it = lays-none;
+        lays_it = lays_none;
         wins_it = λ c agree S. simp (plains.0, plains.1, and-false);
         wager_grows = λ S. omega (arith, single S, was-single S);
         prize_grows = λ S. omega (arith, prize-same t.options S (played_of new) (played_of h) refl (single S ∙ sym (was-single S)));

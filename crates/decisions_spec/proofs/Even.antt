@@ -37,5 +37,5 @@ even_decides t at order shaped sound e =
     let fits : even_open (up t) h ≡ true =
     ((and-eq-true_iff (waits t.options (up t) (length (hands (seat_at t at.seat))) h) (even_open (up t) h)).0 (not-false (may_take permits_even t at.seat) permitted)).1 in
     let ends : Ends t (entry (Even at) order) at.seat (waiting_place_of t at.seat) by_even =
-    record { deciding = record { among = refl; no_insure = refl; seat_is = refl }; plain = refl; ends-one = refl; decides = λ c. refl; some_code = omega arith; fits = fits; single = λ h. omega arith } in
+    record { deciding = record { among = refl; no_insure = refl; seat_is = refl }; plain = refl; ends_one = refl; decides = λ c. refl; some_code = omega arith; fits = fits; single = λ h. omega arith } in
     end-in_turn t (entry (Even at) order) at.seat by_even ends shaped sound turn

@@ -37,5 +37,5 @@ five_decides t at order shaped sound e =
     let fits : five_open t.options (up t) h ≡ true =
     ((and-eq-true_iff (waits t.options (up t) (length (hands (seat_at t at.seat))) h) (five_open t.options (up t) h)).0 (not-false (may_take permits_five t at.seat) permitted)).1 in
     let ends : Ends t (entry (Five at) order) at.seat (waiting_place_of t at.seat) by_five =
-    record { deciding = record { among = refl; no_insure = refl; seat_is = refl }; plain = refl; ends-one = refl; decides = λ c. refl; some_code = omega arith; fits = fits; single = λ h. omega arith } in
+    record { deciding = record { among = refl; no_insure = refl; seat_is = refl }; plain = refl; ends_one = refl; decides = λ c. refl; some_code = omega arith; fits = fits; single = λ h. omega arith } in
     end-in_turn t (entry (Five at) order) at.seat by_five ends shaped sound turn

@@ -67,11 +67,11 @@ module _ (t : Table) (e : Entry) (j p tray : ℕ) (m : Money) (others : List Mon
     paid-shaped =
         let was = w.seat.shaped in
         record {
-          four-places = was.four-places;
-          two-others = d.as_many ∙ was.two-others;
-          four-sides = λ q l. ap (λ (x : Money). length x.sides) (d.same-money q) ∙ was.four-sides q l;
-          three_first = was.three-first;
-          twenty_cards = was.twenty-cards;
+          four_places = was.four_places;
+          two_others = d.as_many ∙ was.two_others;
+          four_sides = λ q l. ap (λ (x : Money). length x.sides) (d.same_money q) ∙ was.four_sides q l;
+          three_first = was.three_first;
+          twenty_cards = was.twenty_cards;
         }
 
     abbrev now : Seat
@@ -91,15 +91,15 @@ module _ (t : Table) (e : Entry) (j p tray : ℕ) (m : Money) (others : List Mon
     paid-now = guest_money now paid refl refl
 
     now-money : (q : ℕ) → (guest_at now q).money ≡ with_purse (guest_of t j q).money (purse (guest_at now q))
-    now-money q = paid-now q ∙ d.same-money q ∙ ap (λ (x : Money). with_purse (guest_of t j q).money x.purse) (sym (paid-now q))
+    now-money q = paid-now q ∙ d.same_money q ∙ ap (λ (x : Money). with_purse (guest_of t j q).money x.purse) (sym (paid-now q))
 
     now-laid : (q : ℕ) → laid (guest_at now q) ≡ laid (guest_of t j q) + more (stake (guest_of t j q))
     now-laid q =
         let g = guest_of t j q in
         let lies : laid (guest_at now q) ≡ sum_of (wager (stake g)) (hands now) + insurance g + all_sides (sides g) =
-        guest-laid now q now-shaped.four-places w.seat.some
+        guest-laid now q now-shaped.four_places w.seat.some
         ∙ ap (λ (x : Money). sum_of (wager x.stake) (hands now) + x.insurance + all_sides x.sides) (now-money q) in
-        omega (arith, guest-laid (seat_at t j) q w.seat.shaped.four-places w.seat.some, over-hands (wager (stake g)), d.wager-grows (stake g))
+        omega (arith, guest-laid (seat_at t j) q w.seat.shaped.four_places w.seat.some, over-hands (wager (stake g)), d.wager-grows (stake g))
 
     now-prizes : (q : ℕ) → prizes t.options (guest_at now q) ≡ prizes t.options (guest_of t j q) + won (stake (guest_of t j q))
     now-prizes q =
@@ -128,22 +128,22 @@ module _ (t : Table) (e : Entry) (j p tray : ℕ) (m : Money) (others : List Mon
           has_hands = w.seat.some;
           playing =
               record {
-                in_round_lem = w.seat.playing.in-round;
+                in_round_lem = w.seat.playing.in_round_lem;
                 staked = omega (arith, w.seat.acting.staked, now-staked);
                 within = w.seat.playing.within;
                 each = each_with paid p paid-shaped w.seat.few w.here h t.options (up t) w.seat.playing.each d.sound-hand;
               };
           turn_is = d.turn_is;
           hands_are = λ c agree. now-hands ∙ sym (d.decides c agree);
-          first_is = λ c agree. now-first ∙ sym (simp d.no-split);
+          first_is = λ c agree. now-first ∙ sym (simp d.no_split);
           events = subst (Events e (hands (seat_at t j))) (sym now-hands) d.events;
-          lays_it = d.lays-it;
-          wins_it = d.wins-it;
+          lays_it = d.lays_it;
+          wins_it = d.wins_it;
           laid_grows = now-laid;
           prizes_grow = now-prizes;
-          purse_pays = λ q. omega (arith, ap (λ (x : Money). x.purse) (paid-now q), d.purse-pays q);
-          tray_pays = d.tray-pays;
+          purse_pays = λ q. omega (arith, ap (λ (x : Money). x.purse) (paid-now q), d.purse_pays q);
+          tray_pays = d.tray_pays;
           draws = d.draws;
           takes = d.takes;
-          cards-moved = now-cards;
+          cards_moved = now-cards;
         }

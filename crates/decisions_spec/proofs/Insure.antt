@@ -79,34 +79,34 @@ module _ (t : Table) (j p n : ℕ) (shaped : Shaped t) (sound : Sound t) (a : In
   laid_more =
       omega (
         arith,
-        laid_playing alone seat.shaped.four-places seat.some,
-        guest-laid (seat_at t j) p seat.shaped.four-places seat.some,
+        laid_playing alone seat.shaped.four_places seat.some,
+        guest-laid (seat_at t j) p seat.shaped.four_places seat.some,
         a.none_yet,
       )
 
-  same-prizes : prizes t.options alone ≡ prizes t.options g
+  same_prizes : prizes t.options alone ≡ prizes t.options g
   unfolding prizes
-  same-prizes = sym (guest-prizes t.options (seat_at t j) p)
+  same_prizes = sym (guest-prizes t.options (seat_at t j) p)
 
   insure-change : GuestChange t j p m 0 0
   insure-change =
       record {
         within = a.acting.within;
         position = a.position;
-        as_many = seat.shaped.four-sides p a.position;
+        as_many = seat.shaped.four_sides p a.position;
         sound_guest_lem =
             record {
               beyond = λ h. absurd (omega (arith, a.acting.within));
-              stake-fits = was.stake-fits;
-              insured = λ some. record { in_round_lem = a.acting.dealt; ace-up = a.ace; staked = a.staked; permitted = a.permitted };
-              sides_fit = was.sides-fit;
-              prizes_back = omega (arith, same-prizes, laid_more, a.enough, was.prizes-back);
+              stake_fits = was.stake_fits;
+              insured = λ some. record { in_round_lem = a.acting.dealt; ace_up = a.ace; staked = a.staked; permitted = a.permitted };
+              sides_fit = was.sides_fit;
+              prizes_back = omega (arith, same_prizes, laid_more, a.enough, was.prizes_back);
             };
         grows = omega arith;
-        same-stake = λ dealt. refl;
-        seated_stakes = λ beside. (sound.seats j a.acting.nine).seated-first p a.position;
-        same-cover = λ dealt. refl;
-        same-prizes = λ dealt. same-prizes;
+        same_stake = λ dealt. refl;
+        seated_stakes = λ beside. (sound.seats j a.acting.nine).seated_first_lem p a.position;
+        same_cover = λ dealt. refl;
+        same_prizes = λ dealt. same_prizes;
         paid = omega (arith, laid_more, a.enough);
         in_limit = omega (arith, sound.money);
       }
@@ -132,11 +132,11 @@ insure_good opening es t at n order good e =
     (record {
       of_money =
           record { seat_is = refl; position_is = refl; not_fill = refl; not_credit = refl; not_load = refl; not_deal = refl; not_decision = refl; not_end = refl };
-      stake_is = agrees.stake-is;
+      stake_is = agrees.stake_is;
       insurance_is = simp (seat-itself, itself);
-      sides_are = λ k h. agrees.sides-are k h ∙ sym (sides_stay es j p (entry (Insure at n) order) refl refl k h);
+      sides_are = λ k h. agrees.sides_are k h ∙ sym (sides_stay es j p (entry (Insure at n) order) refl refl k h);
       lays_more = simp (seat-itself, itself) (laid_more t j p n good.shaped good.sound a);
-      same-prizes = same-prizes t j p n good.shaped good.sound a;
+      same_prizes = same_prizes t j p n good.shaped good.sound a;
       buys = refl;
       cashes = refl;
     })

@@ -20,15 +20,15 @@ pub record Pays (f : Money → Money) (more won : ℕ → ℕ) (s : Seat) : Type
   pub two : length s.others ≡ 2
   pub keeps : (m : Money) → f m ≡ with_purse m (f m).purse
   pub moves : (m : Money) → more m.stake ≤ m.purse → (f m).purse + more m.stake ≡ m.purse + won m.stake
-  pub lays-none : more 0 ≡ 0
-  pub wins-none : won 0 ≡ 0
+  pub lays_none : more 0 ≡ 0
+  pub wins_none : won 0 ≡ 0
   pub enough : (p : ℕ) → p < 3 → more (stake (guest_at s p)) ≤ purse (guest_at s p)
 
 module _ (f : Money → Money) (more won : ℕ → ℕ) (s : Seat) (pays : Pays f more won s) where
   -- the seat so changed has each guest so changed
   pub all-pay : (p : ℕ) → (guest_at (map_guests f s) p).money ≡ f (guest_at s p).money
   all-pay p =
-      let nothing : (f missing_money).purse ≡ 0 = omega (arith, pays.moves missing_money (omega (arith, pays.lays-none)), pays.lays-none, pays.wins-none) in
+      let nothing : (f missing_money).purse ≡ 0 = omega (arith, pays.moves missing_money (omega (arith, pays.lays_none)), pays.lays_none, pays.wins_none) in
       guest_mapped f s p (pays.keeps missing_money ∙ ap (with_purse missing_money) nothing)
 
   enough-everywhere : (p : ℕ) → more (stake (guest_at s p)) ≤ purse (guest_at s p)
@@ -37,7 +37,7 @@ module _ (f : Money → Money) (more won : ℕ → ℕ) (s : Seat) (pays : Pays 
       go : Dec (3 ≤ p) → more (stake (guest_at s p)) ≤ purse (guest_at s p)
       go (yes h) =
           let none = guest_beyond s p (omega (arith, pays.two)) in
-          omega (arith, ap (λ (m : Money). more m.stake) none, pays.lays-none)
+          omega (arith, ap (λ (m : Money). more m.stake) none, pays.lays_none)
       go (no h) = pays.enough p (omega arith)
 
   -- then each guest has what it had but for the purse, and the purse pays

@@ -49,7 +49,7 @@ module _ (t : Table) (shaped : Shaped t) (j p : ℕ) where
   hand-waits nine some =
       let s = seat_at t j in
       let within = inside some in
-      let here : waiting_place_of t j < s.hands.many = omega (arith, many_hands s.hands (shaped.seats j nine).four-places) in
+      let here : waiting_place_of t j < s.hands.many = omega (arith, many_hands s.hands (shaped.seats j nine).four_places) in
       ap (waits t.options (up t) (length (hands s))) (sym (hand_at s.hands (waiting_place_of t j) missing_place here))
       ∙ first_passes (waits t.options (up t) (length (hands s))) (hands s) (played_of missing_place) within
 

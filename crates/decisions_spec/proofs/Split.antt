@@ -17,7 +17,7 @@ use Rattle.cards.specs.Card.{rank_of, is_ace}
 use Rattle.cards.specs.Hand.{cards_of, with_card}
 use Rattle.cards.specs.Length.{could_be_played}
 use Rattle.cards.specs.Pair.{is_pair}
-use Rattle.cards.proofs.prize_hand.PrizeTotal.{no_prize_of_two}
+use Rattle.cards.proofs.prize_hand.PrizeTotal.{no_prize_of-two}
 use Rattle.options.specs.declared.Options.{Options}
 use Rattle.options.proofs.Facts.{in_range_facts}
 use Rattle.rules.specs.declared.seat_hand.SeatHand.{SeatHand}
@@ -143,7 +143,7 @@ module _ (t : Table) (at : At) (order : List ℕ) (shaped : Shaped t) (sound : S
   many = how_many s p w.seat.shaped w.seat.few w.here
 
   fewer : s.hands.many < 4
-  fewer = omega (arith, many, a.room, (in_range_facts t.options sound.options).hands-most)
+  fewer = omega (arith, many, a.room, (in_range_facts t.options sound.options).hands_most)
 
   beside : 2 ≤ s.hands.many + 1
   beside = omega (arith, w.here)
@@ -152,17 +152,17 @@ module _ (t : Table) (at : At) (order : List ℕ) (shaped : Shaped t) (sound : S
   first_three = go (eqb s.hands.many 1)
     where
       go : (b : Bool) → length (cond b (set s.first 2 (card_ahead t 0)) s.first) ≡ 3
-      go true = length-set s.first 2 (card_ahead t 0) ∙ w.seat.shaped.three-first
-      go false = w.seat.shaped.three-first
+      go true = length-set s.first 2 (card_ahead t 0) ∙ w.seat.shaped.three_first
+      go false = w.seat.shaped.three_first
 
   pays : Pays staked_again (λ S. S) (λ S. 0) s
   pays =
       record {
-        two = w.seat.shaped.two-others;
+        two = w.seat.shaped.two_others;
         keeps = λ m. refl;
         moves = λ m has. omega arith;
-        lays-none = refl;
-        wins-none = refl;
+        lays_none = refl;
+        wins_none = refl;
         enough = a.enough;
       }
 
@@ -173,11 +173,11 @@ module _ (t : Table) (at : At) (order : List ℕ) (shaped : Shaped t) (sound : S
   paid-shaped =
       let was = w.seat.shaped in
       record {
-        four-places = was.four-places;
-        two-others = length-map s.others staked_again ∙ was.two-others;
-        four-sides = λ q l. ap (λ (m : Money). length m.sides) (each q) ∙ was.four-sides q l;
-        three_first = was.three-first;
-        twenty_cards = was.twenty-cards;
+        four_places = was.four_places;
+        two_others = length-map s.others staked_again ∙ was.two_others;
+        four_sides = λ q l. ap (λ (m : Money). length m.sides) (each q) ∙ was.four_sides q l;
+        three_first = was.three_first;
+        twenty_cards = was.twenty_cards;
       }
 
   now-shaped : ShapedSeat now
@@ -197,19 +197,19 @@ module _ (t : Table) (at : At) (order : List ℕ) (shaped : Shaped t) (sound : S
   now-laid q =
       let g = guest_at s q in
       let lies : laid (guest_at now q) ≡ sum_of (wager (stake g)) (hands now) + insurance g + all_sides (sides g) =
-      guest-laid now q now-shaped.four-places (omega arith)
+      guest-laid now q now-shaped.four_places (omega arith)
       ∙ ap (λ (m : Money). sum_of (wager m.stake) (hands now) + m.insurance + all_sides m.sides) (now-money q) in
       omega (
         arith,
-        guest-laid s q w.seat.shaped.four-places w.seat.some,
+        guest-laid s q w.seat.shaped.four_places w.seat.some,
         over-hands (wager (stake g)),
         wager_single (stake g) (played_of parent) (λ b. omega arith),
         wager_single (stake g) (played_of new) (λ b. omega arith),
-        wager_single (stake g) (played_of (waiting_hand_of t at.seat)) (λ b. omega (arith, w.not-ended)),
+        wager_single (stake g) (played_of (waiting_hand_of t at.seat)) (λ b. omega (arith, w.not_ended_lem)),
       )
 
   no_prize : (S : ℕ) (h : SeatHand) → length (cards_of h.hand) ≡ 2 → prize t.options S (played_of h) ≡ 0
-  no_prize S h two = prize-none t.options S (played_of h) (no_prize_of_two (cards_of h.hand) two)
+  no_prize S h two = prize-none t.options S (played_of h) (no_prize_of-two (cards_of h.hand) two)
 
   now-prizes : (q : ℕ) → prizes t.options (guest_at now q) ≡ prizes t.options (guest_at s q) + 0
   now-prizes q =
@@ -260,19 +260,19 @@ module _ (t : Table) (at : At) (order : List ℕ) (shaped : Shaped t) (sound : S
   -- the seat has two hands or more now, so all three first cards count
   now-first : (c : Cards) → CardsAgree c t → first_cards now ≡ keeps (hands s) (first_cards s) c (entry (Split at) order)
   now-first c agree =
-      let several : eqb (length (hands now)) 1 ≡ false = ne_eqb (length (hands now)) 1 (λ one. omega (arith, many_hands now.hands now-shaped.four-places, w.here)) in
+      let several : eqb (length (hands now)) 1 ≡ false = ne_eqb (length (hands now)) 1 (λ one. omega (arith, many_hands now.hands now-shaped.four_places, w.here)) in
       ap (λ (b : Bool). take (cond b 2 3) first-now) several
       ∙ ap (λ (n : ℕ). take 3 (cond (eqb n 1) (set s.first 2 (card_ahead t 0)) s.first)) (sym many)
       ∙ go (eqb (length (hands s)) 1)
       ∙ ap (λ (card : ℕ). cond (eqb (length (hands s)) 1) (first_cards s ++ (card ∷ [])) (first_cards s)) (sym (next_card_lem t c 0 agree (omega (arith, a.left))))
     where
       go : (b : Bool) → take 3 (cond b (set s.first 2 (card_ahead t 0)) s.first) ≡ cond b (take (cond b 2 3) s.first ++ (card_ahead t 0 ∷ [])) (take (cond b 2 3) s.first)
-      go true = take-suc-set s.first 2 (card_ahead t 0) (omega (arith, w.seat.shaped.three-first))
+      go true = take-suc-set s.first 2 (card_ahead t 0) (omega (arith, w.seat.shaped.three_first))
       go false = refl
 
   -- there are two hands or more
   split-events : Events (entry (Split at) order) (hands s) (hands now)
-  split-events = drawing (entry (Split at) order) (hands s) (hands now) refl (drew_hands (hands now) (omega (arith, many_hands now.hands now-shaped.four-places, w.here)))
+  split-events = drawing (entry (Split at) order) (hands s) (hands now) refl (drew_hands (hands now) (omega (arith, many_hands now.hands now-shaped.four_places, w.here)))
 
   decided : Decided t (entry (Split at) order) at.seat t.tray now (with_drawn t.shoe 2) 2 (λ S. S) (λ S. 0)
   unfolding lays wins call_takes
@@ -285,7 +285,7 @@ module _ (t : Table) (at : At) (order : List ℕ) (shaped : Shaped t) (sound : S
         has_hands = omega arith;
         playing =
             record {
-              in_round_lem = w.seat.playing.in-round;
+              in_round_lem = w.seat.playing.in_round_lem;
               staked = omega (arith, now-staked, w.seat.acting.staked);
               within = omega (arith, many, a.room);
               each =
@@ -304,7 +304,7 @@ module _ (t : Table) (at : At) (order : List ℕ) (shaped : Shaped t) (sound : S
         tray_pays = omega arith;
         draws = draws_some t 2 a.left (omega arith);
         takes = λ staked c. refl;
-        cards-moved = now-cards;
+        cards_moved = now-cards;
       }
 
 pub split_decides : (t : Table) (at : At) (order : List ℕ) → Shaped t → Sound t → first (split_conditions t at.seat at.position) ≡ 0

@@ -26,5 +26,5 @@ pub stand_decides : (t : Table) (at : At) (order : List ℕ) → Shaped t → So
 unfolding turn_conditions guest_conditions seat_conditions all_of decide sound_ending
 stand_decides t at order shaped sound e =
     let ends : Ends t (entry (Stand at) order) at.seat (waiting_place_of t at.seat) by_stand =
-    record { deciding = record { among = refl; no_insure = refl; seat_is = refl }; plain = refl; ends-one = refl; decides = λ c. refl; some_code = omega arith; fits = refl; single = λ h. omega arith } in
+    record { deciding = record { among = refl; no_insure = refl; seat_is = refl }; plain = refl; ends_one = refl; decides = λ c. refl; some_code = omega arith; fits = refl; single = λ h. omega arith } in
     end-in_turn t (entry (Stand at) order) at.seat by_stand ends shaped sound (turn-accepted t at.seat at.position [] refl e).0

@@ -55,7 +55,7 @@ module _ (t : Table) (j : ℕ) (shaped : Shaped t) (nine : j < 9) (none : any_dr
   unfolding any_drew seat_drew
   not-drew =
       or_eq_false (ltb 1 (length (hands (seat_at t j)))) (any_of (λ h. not (has_two_cards h)) (hands (seat_at t j)))
-      (ap seat_drew (sym (get_or-map hands t.seats j missing_seat)) ∙ any_not_at seat_drew (seats_hands t) j (hands missing_seat) (omega (arith, length-map t.seats hands, shaped.nine-seats)) none)
+      (ap seat_drew (sym (get_or-map hands t.seats j missing_seat)) ∙ any_not_at seat_drew (seats_hands t) j (hands missing_seat) (omega (arith, length-map t.seats hands, shaped.nine_seats_lem)) none)
 
   pub not_split : length (hands (seat_at t j)) ≤ 1
   not_split = ltb-false 1 (length (hands (seat_at t j))) not-drew.0
@@ -70,7 +70,7 @@ module _ (t : Table) (j : ℕ) (shaped : Shaped t) (nine : j < 9) (none : any_dr
 first-waiting : (t : Table) (j : ℕ) → Shaped t → Sound t → SurrenderAccepted t j → Waiting t j 0
 first-waiting t j shaped sound a =
     let w = seat-waiting t shaped sound j a.acting a.waits in
-    let first-place : waiting_place_of t j ≡ 0 = omega (arith, not_split t j shaped a.acting.nine a.early, many_hands (seat_at t j).hands w.seat.shaped.four-places, w.here) in
+    let first-place : waiting_place_of t j ≡ 0 = omega (arith, not_split t j shaped a.acting.nine a.early, many_hands (seat_at t j).hands w.seat.shaped.four_places, w.here) in
     subst (Waiting t j) first-place w
 
 -- so the hand is the seat's only one, of two cards, against no ace
@@ -80,7 +80,7 @@ unfolding sound_ending sound_surrender has_two_cards
 surrendered t j shaped a w =
     let s = seat_at t j in
     let one : s.hands.many ≡ 1 = omega (arith, not_split t j shaped a.acting.nine a.early, how_many s 0 w.seat.shaped w.seat.few w.here, w.seat.some) in
-    simp (eq-eqb s.hands.many 1 one, two_cards_lem t j shaped a.acting.nine a.early 0 w, a.no-ace)
+    simp (eq-eqb s.hands.many 1 one, two_cards_lem t j shaped a.acting.nine a.early 0 w, a.no_ace)
 
 pub surrender_decides : (t : Table) (at : At) (order : List ℕ) → Shaped t → Sound t → first (surrender_conditions t at.seat at.position) ≡ 0
     → Decision t (entry (Surrender at) order) (surrender_effect t at.seat)
@@ -89,5 +89,5 @@ surrender_decides t at order shaped sound e =
     let a = surrender-accepted t at.seat at.position e in
     let w = first-waiting t at.seat shaped sound a in
     let ends : Ends t (entry (Surrender at) order) at.seat 0 by_surrender =
-    record { deciding = record { among = refl; no_insure = refl; seat_is = refl }; plain = refl; ends-one = refl; decides = λ c. refl; some_code = omega arith; fits = surrendered t at.seat shaped a w; single = λ h. omega arith } in
+    record { deciding = record { among = refl; no_insure = refl; seat_is = refl }; plain = refl; ends_one = refl; decides = λ c. refl; some_code = omega arith; fits = surrendered t at.seat shaped a w; single = λ h. omega arith } in
     end_decides t (entry (Surrender at) order) at.seat 0 by_surrender ends sound (λ in_turn_lem. absurd (true≢false in_turn_lem)) w

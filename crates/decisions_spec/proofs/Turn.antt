@@ -9,7 +9,7 @@ use lib.Dec.{ltb, eqb}
 use lib.ListN.{length, get_or, length-map, get_or-map, get_or-eq_default}
 use borrow.Author.Tests.{eqb-true, not-false}
 use Rattle.lists.specs.Tests.{all_of}
-use Rattle.lists.proofs.Tests.{first_passes, before_first}
+use Rattle.lists.proofs.Tests.{first_passes, before-first}
 use Rattle.lists.proofs.Below.{first_below_lem}
 use Rattle.rules.specs.SeatHand.{Played}
 use Rattle.rules.specs.Turn.{seat_waits, turn_seat}
@@ -70,7 +70,7 @@ history_turn opening es t agrees j a =
     let c = cards_of_history o opening es in
     let test = seat_waits o (up t) in
     let same : (k : ℕ) → seat_waits o (get_or c.bank 0 0) (hands_in o opening es k) ≡ test (hands (seat_at t k)) = λ k.
-    ap₂ (λ (bank : List ℕ) (hs : List Played). seat_waits o (get_or bank 0 0) hs) (sym agrees.cards.bank) (sym (agrees.seats k).hands-are) in
+    ap₂ (λ (bank : List ℕ) (hs : List Played). seat_waits o (get_or bank 0 0) hs) (sym agrees.cards.bank) (sym (agrees.seats k).hands_are) in
     first_below_lem (λ k. seat_waits o (get_or c.bank 0 0) (hands_in o opening es k)) o.seats j a.acting.within
-    (λ k before. same k ∙ ap test (sym (get_or-map hands t.seats k missing_seat)) ∙ before_first test (seats_hands t) (hands missing_seat) k (omega (arith, a.turn)))
+    (λ k before. same k ∙ ap test (sym (get_or-map hands t.seats k missing_seat)) ∙ before-first test (seats_hands t) (hands missing_seat) k (omega (arith, a.turn)))
     (same j ∙ a.waits)

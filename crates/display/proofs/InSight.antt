@@ -9,8 +9,8 @@ pub hidden_unshown : (t u : Table) → HiddenUnshown t u
 unfolding bank_shown table_shown turn_shown guest_or_empty seat_shown hand_shown
 hidden_unshown t u s same =
     record {
-      table = rw (same, s.options, s.tray, s.seats, s.bank, s.up-card, s.drawn, s.discarded);
-      turn = rw (same, s.options, s.seats, s.up-card);
+      table = rw (same, s.options, s.tray, s.seats, s.bank, s.up_card_lem, s.drawn, s.discarded);
+      turn = rw (same, s.options, s.seats, s.up_card_lem);
       seat = λ i q. rw (same, s.options, s.seats);
       hand = λ i q p. rw (same, s.options, s.seats);
     }

@@ -105,6 +105,6 @@ lowest_first t c order =
       in_sequence_lem = sequenced t c order;
       answer_stands = λ n some e. first_stands cs n some (sym (number-first t c order) ∙ e);
       stands_answered = λ n at. number-first t c order ∙ first_says cs n at;
-      accepted-none = λ e. none_of cs (numbers t c order) (sym (number-first t c order) ∙ e);
-      none-accepted = λ none. number-first t c order ∙ of_none cs none;
+      accepted_none = λ e. none_of cs (numbers t c order) (sym (number-first t c order) ∙ e);
+      none_accepted = λ none. number-first t c order ∙ of_none cs none;
     }

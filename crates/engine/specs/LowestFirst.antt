@@ -27,5 +27,5 @@ pub record LowestFirst (t : Table) (c : Call) (order : List ℕ) : Type 0 where
   pub answer_stands : (n : ℕ) → (n ≡ 0 → ⊥) → number t c order ≡ n → FirstAt (conditions t c order) n
   pub stands_answered : (n : ℕ) → FirstAt (conditions t c order) n → number t c order ≡ n
   -- it is 0 exactly if none holds
-  pub accepted-none : number t c order ≡ 0 → any_of holds (conditions t c order) ≡ false
-  pub none-accepted : any_of holds (conditions t c order) ≡ false → number t c order ≡ 0
+  pub accepted_none : number t c order ≡ 0 → any_of holds (conditions t c order) ≡ false
+  pub none_accepted : any_of holds (conditions t c order) ≡ false → number t c order ≡ 0

@@ -67,7 +67,7 @@ few_left t twenty whole dealt =
             length-take t.bank.count t.bank.cards,
           );
       each = λ face h.
-          omega (arith, seen_and_left t whole dealt face h, sum-append (is_it face) (table_shoe t) (drop 1 (bank_cards t)), (sound_options t (unbroken t whole)).decks-most);
+          omega (arith, seen_and_left t whole dealt face h, sum-append (is_it face) (table_shoe t) (drop 1 (bank_cards t)), (sound_options t (unbroken t whole)).decks_most);
     }
 
 -- the bank has a card

@@ -86,13 +86,13 @@ within c known s p n =
 
 accepted-fits : (t : Table) (c : Call) (order : List ℕ) → first (conditions t c order) ≡ 0 → fits c ≡ true
 unfolding known_kind draw_conditions double_conditions split_conditions even_conditions five_conditions surrender_conditions
-accepted-fits t (Fill n) order e = within (Fill n) refl (omega arith) (omega arith) (omega (arith, (fill-accepted t n e).in-limit))
+accepted-fits t (Fill n) order e = within (Fill n) refl (omega arith) (omega arith) (omega (arith, (fill-accepted t n e).in_limit))
 accepted-fits t (Credit n) order e =
     let a = credit-accepted t n e in
     within (Credit n) refl (omega arith) (omega arith) (omega (arith, a.enough, (unbroken t a.unbroken).money))
 accepted-fits t (Buy at n) order e =
     let a = buy-accepted t at.seat at.position n e in
-    within (Buy at n) refl a.guest.nine a.guest.position (omega (arith, a.in-limit))
+    within (Buy at n) refl a.guest.nine a.guest.position (omega (arith, a.in_limit))
 accepted-fits t (Cash at n) order e =
     let a = cash-accepted t at.seat at.position n e in
     within (Cash at n) refl a.guest.nine a.guest.position (omega (arith, a.enough, purse-within t at.seat at.position a.guest.unbroken a.guest.position))
@@ -210,4 +210,4 @@ kept_run t [] = refl
 kept_run t (e ∷ es) = ap (λ (r : ReplyView). run r.table (map kept es)) (lent_same t e.call e.order) ∙ kept_run (next t e.call e.order) es
 
 pub kept-played : (t : Table) (calls : List Entry) → run t (map kept (reverse (accepted t calls []))) ≡ run t calls
-kept-played t calls = kept_run t (reverse (accepted t calls [])) ∙ (replayed t calls).same-table
+kept-played t calls = kept_run t (reverse (accepted t calls [])) ∙ (replayed t calls).same_table

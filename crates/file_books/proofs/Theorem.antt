@@ -36,7 +36,7 @@ written_file o order calls opens =
     let back = file_calls_lem o order es range valid ok in
     let table : run (opened o order) (file_calls (session_file o order calls)) ≡ run (opened o order) calls = ap (run (opened o order)) back ∙ kept-played (opened o order) calls in
     record {
-      writable-all = ok;
+      writable_all = ok;
       writer_gives = writer_gives o order es range valid ok;
       bytes = file_bytes o order es range valid ok;
       number_0 = file_number_lem o order es range valid ok;

@@ -25,7 +25,7 @@ session_file o order calls = file_of o order (called_in o order calls)
 -- A written session, opened with number 0.
 pub record Written (o : Options) (order : List ℕ) (calls : List Entry) : Type 0 where
   -- the writer refuses none of the accepted calls, and what it gives out, block by block, is the session's file
-  pub writable-all : all_of (writable o) (called_in o order calls) ≡ true
+  pub writable_all : all_of (writable o) (called_in o order calls) ≡ true
   pub writer_gives : flat (λ block. block) (begun o order).blocks ++ flat (λ block. block) (writes o 0 [] (called_in o order calls)) ≡ session_file o order calls
   -- it is a file of bytes, and not refused
   pub bytes : Bytes (session_file o order calls)

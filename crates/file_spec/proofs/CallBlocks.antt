@@ -42,10 +42,10 @@ map-drop f zero xs = refl
 map-drop f (suc n) [] = refl
 map-drop f (suc n) (x ∷ xs) = map-drop f n xs
 
-flat_same : {A B : Type 0} (f g : A → List B) (xs : List A) (d : A) → ((i : ℕ) → i < length xs → f (get_or xs i d) ≡ g (get_or xs i d)) → flat f xs ≡ flat g xs
+flat-same : {A B : Type 0} (f g : A → List B) (xs : List A) (d : A) → ((i : ℕ) → i < length xs → f (get_or xs i d) ≡ g (get_or xs i d)) → flat f xs ≡ flat g xs
 unfolding flat
-flat_same f g [] d h = refl
-flat_same f g (x ∷ xs) d h = ap₂ ◌++◌ (h 0 (omega arith)) (flat_same f g xs d (λ i lt. h (suc i) (omega arith)))
+flat-same f g [] d h = refl
+flat-same f g (x ∷ xs) d h = ap₂ ◌++◌ (h 0 (omega arith)) (flat-same f g xs d (λ i lt. h (suc i) (omega arith)))
 
 -- what a kind has none of is 0
 stray : (has : Bool) (n : ℕ) → has ≡ false → not has && not (eqb n 0) ≡ false → n ≡ 0
@@ -266,7 +266,7 @@ module _ (last : Bool) (block : List ℕ) (bytes : Bytes block) (len : length bl
   read_calls =
       let written : flat call_bytes (map code_call (codes_in block)) ≡ joined (codes_in block) =
       flat_map call_bytes code_call (codes_in block)
-      ∙ flat_same (λ code. call_bytes (code_call code)) (λ code. code) (codes_in block) [] (λ i h. code_write (get_or (codes_in block) i []) (codes_pass i (omega (arith, h, codes_many)))) in
+      ∙ flat-same (λ code. call_bytes (code_call code)) (λ code. code) (codes_in block) [] (λ i h. code_write (get_or (codes_in block) i []) (codes_pass i (omega (arith, h, codes_many)))) in
       let counted : length (map code_call (codes_in block)) ≡ many = length-map (codes_in block) code_call ∙ codes_many in
       let few : many ≤ 50 = read_many.1 in
       let left : 508 - length (many ∷ joined (codes_in block)) ≡ 507 - 10 * many = omega (arith, joined-long) in

@@ -26,9 +26,9 @@ call_length c = refl
 -- what fitting says
 pub record Fits (c : Call) : Type 0 where
   pub known : known_kind c ≡ true
-  pub seat-fits : seat c < 16
-  pub position-fits : position c < 16
-  pub amount-fits : amount c < 256 ^ 8
+  pub seat_fits : seat c < 16
+  pub position_fits : position c < 16
+  pub amount_fits : amount c < 256 ^ 8
 
 pub fits_facts : (c : Call) → fits c ≡ true → Fits c
 fits_facts c h =
@@ -37,9 +37,9 @@ fits_facts c h =
     let (k, s) = (and-eq-true_iff (known_kind c) (ltb (seat c) 16)).0 two in
     record {
       known = k;
-      seat-fits = ltb-true (seat c) 16 s;
-      position-fits = ltb-true (position c) 16 p;
-      amount-fits = omega (arith, leb-true (amount c) 18446744073709551615 n);
+      seat_fits = ltb-true (seat c) 16 s;
+      position_fits = ltb-true (position c) 16 p;
+      amount_fits = omega (arith, leb-true (amount c) 18446744073709551615 n);
     }
 
 side-known : (at : At) (k n : ℕ) → known_kind (Side at k n) ≡ true → (1 ≤ k) × (k ≤ 4)
@@ -76,14 +76,14 @@ call_side k at n h =
 -- seat, position and amount are read as they were written
 at_read : (c : Call) (at : At) → at.seat ≡ seat c → at.position ≡ position c → Fits c → code_at (call_bytes c) ≡ at
 unfolding call_bytes
-at_read c at s p h = ap₂ make (omega (arith, h.seat-fits)) (omega (arith, h.seat-fits))
+at_read c at s p h = ap₂ make (omega (arith, h.seat_fits)) (omega (arith, h.seat_fits))
   where
     make : ℕ → ℕ → At
     make x y = record { seat = x; position = y }
 
 amount_read : (c : Call) → Fits c → code_amount (call_bytes c) ≡ amount c
 unfolding call_bytes little_endian
-amount_read c h = le_read 8 (amount c) h.amount-fits
+amount_read c h = le_read 8 (amount c) h.amount_fits
 
 pub code_read : (c : Call) → Fits c → code_call (call_bytes c) ≡ c
 unfolding call_bytes call_of
@@ -135,7 +135,7 @@ pub call_bytes_lem : (c : Call) → Fits c → Bytes (call_bytes c)
 unfolding call_bytes
 call_bytes_lem c h =
     cons_all is_byte (kind c) ((seat c + 16 * position c) ∷ little_endian 8 (amount c)) (lt-ltb (kind c) 256 (omega (arith, (kind-range c h.known).1)))
-    (cons_all is_byte (seat c + 16 * position c) (little_endian 8 (amount c)) (lt-ltb (seat c + 16 * position c) 256 (omega (arith, h.seat-fits, h.position-fits))) (le_bytes 8 (amount c)))
+    (cons_all is_byte (seat c + 16 * position c) (little_endian 8 (amount c)) (lt-ltb (seat c + 16 * position c) 256 (omega (arith, h.seat_fits, h.position_fits))) (le_bytes 8 (amount c)))
 
 -- a call without a seat or an amount has 0 there
 stray_seat_lem : (c : Call) → known_kind c ≡ true → not (has_seat (kind c)) && not (eqb (seat c + 16 * position c) 0) ≡ false
@@ -296,7 +296,7 @@ module _ (code : List ℕ) (p : Passes code) where
   held : (kind (code_call code) ≡ code_kind code) × (seat (code_call code) ≡ (code_at code).seat) × (position (code_call code) ≡ (code_at code).position) × (amount (code_call code) ≡ code_amount code) × (known_kind (code_call code) ≡ true)
   held =
       each_below Holds 22 kinds_hold (code_kind code) (omega (arith, p.most)) (code_at code) (code_amount code) p.least
-      ((λ none. let zero-byte : code_seat code ≡ 0 = p.no-seat none in (omega arith, omega arith)), (λ none. sym (p.no-amount none)))
+      ((λ none. let zero-byte : code_seat code ≡ 0 = p.no_seat none in (omega arith, omega arith)), (λ none. sym (p.no_amount none)))
 
   pub code_kind_lem : kind (code_call code) ≡ code_kind code
   code_kind_lem = held.0

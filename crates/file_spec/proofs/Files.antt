@@ -47,11 +47,11 @@ module _ (calls : List Call) (c : Call) where
   abbrev pub now : List Call
   now = calls ++ c ∷ []
 
-  pub now_length : length now ≡ length calls + 1
-  now_length = length-append calls (c ∷ [])
+  pub now-length : length now ≡ length calls + 1
+  now-length = length-append calls (c ∷ [])
 
   before_last : length calls ≡ length now - 1
-  before_last = omega (arith, now_length)
+  before_last = omega (arith, now-length)
 
   front : take (length now - 1) now ≡ calls
   front = take_at calls (c ∷ []) (length now - 1) before_last
@@ -62,21 +62,21 @@ module _ (calls : List Call) (c : Call) where
   end-loads : any_of is_load_call (drop (length now - 1) now) ≡ is_load_call c
   end-loads = ap (any_of is_load_call) end ∙ any_one is_load_call c
 
-  pub now_fits : all_of fits calls ≡ true → fits c ≡ true → all_of fits now ≡ true
+  pub now-fits : all_of fits calls ≡ true → fits c ≡ true → all_of fits now ≡ true
   unfolding all_of
-  now_fits fit one = all_append fits calls (c ∷ []) fit (cons_all fits c [] one refl)
+  now-fits fit one = all_append fits calls (c ∷ []) fit (cons_all fits c [] one refl)
 
-  pub now_no_load : no_load calls → is_load_call c ≡ false → no_load now
+  pub now-no_load : no_load calls → is_load_call c ≡ false → no_load now
   unfolding all_of
-  now_no_load none one = all_append (λ x. not (is_load_call x)) calls (c ∷ []) none (cons_all (λ x. not (is_load_call x)) c [] (ap not one) refl)
+  now-no_load none one = all_append (λ x. not (is_load_call x)) calls (c ∷ []) none (cons_all (λ x. not (is_load_call x)) c [] (ap not one) refl)
 
   module _ (fit : all_of fits now ≡ true) (room : length calls < 50) where
-    pub now_ends : ends_in_load (call_block now) ≡ is_load_call c
-    now_ends = ends_are now fit (omega (arith, now_length)) (omega (arith, now_length)) ∙ end-loads
+    pub now-ends : ends_in_load (call_block now) ≡ is_load_call c
+    now-ends = ends_are now fit (omega (arith, now-length)) (omega (arith, now-length)) ∙ end-loads
 
-    pub now_accepted : (last : Bool) → no_load calls → not last && ltb (length now) most && not (is_load_call c) ≡ false → last && is_load_call c ≡ false → first (call_conditions last (call_block now)) ≡ 0
-    now_accepted last none full ends =
-        calls-accepted now fit (omega (arith, now_length)) (omega (arith, now_length)) last
+    pub now-accepted : (last : Bool) → no_load calls → not last && ltb (length now) most && not (is_load_call c) ≡ false → last && is_load_call c ≡ false → first (call_conditions last (call_block now)) ≡ 0
+    now-accepted last none full ends =
+        calls-accepted now fit (omega (arith, now-length)) (omega (arith, now-length)) last
         (ap (any_of is_load_call) front ∙ none_any is_load_call calls none)
         (ap (λ (b : Bool). not last && ltb (length now) most && not b) end-loads ∙ full)
         (ap (λ (b : Bool). last && b) end-loads ∙ ends)
@@ -117,22 +117,22 @@ module _ (o : Options) (order : List ℕ) (range : in_range o ≡ true) (valid :
     unfolding is_end
     one_more true full l f lent rest more =
         past_calls start one (table_block o e.order ∷ blocks_behind o [] es) true
-        (now_accepted calls e.call fit room false none (ap (λ (b : Bool). ltb (length (now calls e.call)) most && not b) l ∙ and-false (ltb (length (now calls e.call)) most)) refl)
-        (now_ends calls e.call fit room ∙ l)
+        (now-accepted calls e.call fit room false none (ap (λ (b : Bool). ltb (length (now calls e.call)) most && not b) l ∙ and-false (ltb (length (now calls e.call)) most)) refl)
+        (now-ends calls e.call fit room ∙ l)
         ∙ past_table start (table_block o e.order) (blocks_behind o [] es) (loaded_accepted o order e.order range valid (lent l))
         ∙ rest
     one_more false true l f lent rest more =
         let fifty : length (now calls e.call) ≡ 50 = eqb-true (length (now calls e.call)) most f in
         let last : Bool = is_end (blocks_behind o [] es) in
         past_calls start one (blocks_behind o [] es) false
-        (now_accepted calls e.call fit room last none
+        (now-accepted calls e.call fit room last none
         (ap (λ (b : Bool). not last && b && not (is_load e)) (le-ltb (length (now calls e.call)) most (omega (arith, fifty))) ∙ ap (λ (b : Bool). b && not (is_load e)) (and-false (not last)))
         (ap (λ (b : Bool). last && b) l ∙ and-false last))
-        (now_ends calls e.call fit room ∙ l)
+        (now-ends calls e.call fit room ∙ l)
         ∙ rest
     one_more false false l f lent rest more =
         let other : length (now calls e.call) ≡ 50 → ⊥ = eqb-false (length (now calls e.call)) most f in
-        more (now_no_load calls e.call none l) (omega (arith, now_length calls e.call, other))
+        more (now-no_load calls e.call none l) (omega (arith, now-length calls e.call, other))
 
   pub behind-accepted : (calls : List Call) (es : List Entry) → all_of fits calls ≡ true → no_load calls → length calls < 50 → all_of (writable o) es ≡ true
       → number_behind start false (blocks_behind o calls es) ≡ 0
@@ -142,7 +142,7 @@ module _ (o : Options) (order : List ℕ) (range : in_range o ≡ true) (valid :
   behind-accepted calls (e ∷ es) fit none room ok =
       let (one_ok, more-ok) = all_cons (writable o) e es ok in
       let (one-fits, lent) = writable_facts o e one_ok in
-      let fit-now = now_fits calls e.call fit one-fits in
+      let fit-now = now-fits calls e.call fit one-fits in
       one_more calls e es fit-now none room (is_load e) (eqb (length (now calls e.call)) most) refl refl lent
       (behind-accepted [] es refl refl (omega arith) more-ok)
       (λ none-now room-now. behind-accepted (now calls e.call) es fit-now none-now room-now more-ok)
@@ -178,9 +178,9 @@ not_lent e order l = rw l
 plain-kept : (e : Entry) → is_load e ≡ false → plain e.call ≡ kept e
 plain-kept e l = rw l
 
-map_now : (calls : List Call) (c : Call) → map plain (now calls c) ≡ map plain calls ++ plain c ∷ []
-map_now [] c = refl
-map_now (x ∷ calls) c = ap (λ (xs : List Entry). plain x ∷ xs) (map_now calls c)
+map-now : (calls : List Call) (c : Call) → map plain (now calls c) ≡ map plain calls ++ plain c ∷ []
+map-now [] c = refl
+map-now (x ∷ calls) c = ap (λ (xs : List Entry). plain x ∷ xs) (map-now calls c)
 
 module _ (o : Options) where
   -- the calls of one block, then the others
@@ -196,7 +196,7 @@ module _ (o : Options) where
     this : (blocks : List (List ℕ)) (ends : Bool) → is_load e ≡ ends
         → calls_behind false (call_block (now calls e.call) ∷ blocks) ≡ map plain calls ++ lent_entry (next_order blocks) e.call ∷ calls_behind ends blocks
     this blocks ends l =
-        from_block (now calls e.call) blocks ends fit (omega (arith, now_length calls e.call)) (omega (arith, now_length calls e.call)) (now_ends calls e.call fit room ∙ l)
+        from_block (now calls e.call) blocks ends fit (omega (arith, now-length calls e.call)) (omega (arith, now-length calls e.call)) (now-ends calls e.call fit room ∙ l)
         ∙ ap (λ (xs : List Entry). xs ++ calls_behind ends blocks) (now_entries (next_order blocks) calls e.call none)
         ∙ append_assoc (map plain calls) (lent_entry (next_order blocks) e.call ∷ []) (calls_behind ends blocks)
 
@@ -216,8 +216,8 @@ module _ (o : Options) where
         this (blocks_behind o [] es) false l ∙ ap₂ (λ (x : Entry) (xs : List Entry). map plain calls ++ x ∷ xs) (not_lent e (next_order (blocks_behind o [] es)) l) rest
     from-one-more false false l f lent rest more =
         let other : length (now calls e.call) ≡ 50 → ⊥ = eqb-false (length (now calls e.call)) most f in
-        more (now_no_load calls e.call none l) (omega (arith, now_length calls e.call, other))
-        ∙ ap (λ (xs : List Entry). xs ++ map kept es) (map_now calls e.call)
+        more (now-no_load calls e.call none l) (omega (arith, now-length calls e.call, other))
+        ∙ ap (λ (xs : List Entry). xs ++ map kept es) (map-now calls e.call)
         ∙ append_assoc (map plain calls) (plain e.call ∷ []) (map kept es)
         ∙ ap (λ (x : Entry). map plain calls ++ x ∷ map kept es) (plain-kept e l)
 
@@ -231,7 +231,7 @@ module _ (o : Options) where
   handed_out range calls (e ∷ es) fit none room ok =
       let (one_ok, more-ok) = all_cons (writable o) e es ok in
       let (one-fits, lent) = writable_facts o e one_ok in
-      let fit-now = now_fits calls e.call fit one-fits in
+      let fit-now = now-fits calls e.call fit one-fits in
       from-one-more range calls e es fit-now none room (is_load e) (eqb (length (now calls e.call)) most) refl refl lent
       (handed_out range [] es refl refl (omega arith) more-ok)
       (λ none-now room-now. handed_out range (now calls e.call) es fit-now none-now room-now more-ok)

@@ -33,7 +33,7 @@ use Rattle.file_spec.proofs.TableBlocks.{loaded_table, read_range, read_valid, r
 use Rattle.file_spec.proofs.CallBlocks.{is_load_call, read_many, no_early, read_full, read_end, codes_many, codes_pass, read_calls}
 use Rattle.file_spec.proofs.Codes.{Passes, code_kind_lem}
 use Rattle.file_spec.proofs.WholeFiles.{joined_blocks}
-use Rattle.file_spec.proofs.Files.{no_load, plain, now, now_length}
+use Rattle.file_spec.proofs.Files.{no_load, plain, now, now-length}
 
 -- calls without a load fill the open block
 module _ (o : Options) where
@@ -42,14 +42,14 @@ module _ (o : Options) where
   fills calls [] es none room = ap (λ (l : List Call). blocks_behind o l es) (sym (append-nil calls))
   fills calls (c ∷ more) es none room =
       let (one, others) = all_cons (λ x. not (is_load_call x)) c more none in
-      rw (not-true (is_load_call c) one, ne_eqb (length (now calls c)) most (λ fifty. omega (arith, fifty, now_length calls c)))
-      (fills (now calls c) more es others (omega (arith, now_length calls c))
+      rw (not-true (is_load_call c) one, ne_eqb (length (now calls c)) most (λ fifty. omega (arith, fifty, now-length calls c)))
+      (fills (now calls c) more es others (omega (arith, now-length calls c))
       ∙ ap (λ (l : List Call). blocks_behind o l es) (append_assoc calls (c ∷ []) more))
 
   -- the fiftieth completes it, and so does a load
   completes : (calls : List Call) (c : Call) (es : List Entry) → is_load_call c ≡ false → length calls ≡ 49 → blocks_behind o calls (plain c ∷ es) ≡ call_block (now calls c) ∷ blocks_behind o [] es
   unfolding blocks_behind
-  completes calls c es one full = rw (one, eq-eqb (length (now calls c)) most (omega (arith, now_length calls c)))
+  completes calls c es one full = rw (one, eq-eqb (length (now calls c)) most (omega (arith, now-length calls c)))
 
   loads : (calls : List Call) (e : Entry) (es : List Entry) → is_load e ≡ true → blocks_behind o calls (e ∷ es) ≡ call_block (now calls e.call) ∷ table_block o e.order ∷ blocks_behind o [] es
   unfolding blocks_behind
@@ -217,7 +217,7 @@ module _ (start : List ℕ) (start-len : length start ≡ 512) where
         up-to-last [] []
         ∙ ap (λ (x : Entry). blocks_behind o calls (x ∷ [])) (end-plain [] e)
         ∙ fills o calls (code_call last_code ∷ []) [] (one-no_load (code_call last_code) (no-load-end e)) (omega (arith, counted, few, read_many (is_end blocks) block bytes len passed))
-        ∙ rests o (now calls (code_call last_code)) (omega (arith, now_length calls (code_call last_code)))
+        ∙ rests o (now calls (code_call last_code)) (omega (arith, now-length calls (code_call last_code)))
         ∙ ap (λ (b : List ℕ). b ∷ []) (sym this)
 
   -- it ends in a load, and a table block follows

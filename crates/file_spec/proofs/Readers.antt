@@ -134,8 +134,8 @@ module _ (file : List ℕ) (bytes : Bytes file) where
               any_not_at is_load_code (take (n - 1) codes) i [] (omega (arith, near, long, length-take-le (n - 1) codes (omega (arith, long)))) (no_early last (block_at q) block-bytes block_length passed) in
               absurd (true≢false (sym load ∙ ap is_load_code (sym (get_or-take (n - 1) codes i [] near)) ∙ none))
 
-      same-order : (i : ℕ) → i < n → order_at file (place_at q i) ≡ (code_entry lent (get_or codes i [])).order
-      same-order i h =
+      same_order : (i : ℕ) → i < n → order_at file (place_at q i) ≡ (code_entry lent (get_or codes i [])).order
+      same_order i h =
           ap (λ (code : List ℕ). cond (is_load_code code) (take (52 * get_or file (start_of (place_at q i) + 513) 0) (drop (start_of (place_at q i) + 544) file)) []) (code_is i h (omega (arith, few)))
           ∙ go (is_load_code (get_or codes i [])) refl
         where
@@ -151,7 +151,7 @@ module _ (file : List ℕ) (bytes : Bytes file) where
           let near : i < 50 = omega (arith, few) in (
             found-is i near,
             call-is i near ∙ ap code_call (code_is i h near),
-            order_is i near ∙ same-order i h,
+            order_is i near ∙ same_order i h,
             subst (λ (p : ℕ). Reads file p es) (sym (behind_is i near)) more,
           )
 
@@ -210,7 +210,7 @@ module _ (file : List ℕ) (bytes : Bytes file) where
         let number : (first (loaded_conditions start table) ≡ 0) × (number_behind start false (pieces 512 m (drop 512 (drop (512 * (q + 1)) file))) ≡ 0) =
         both_zero (first (loaded_conditions start table)) (number_behind start false (pieces 512 m (drop 512 (drop (512 * (q + 1)) file)))) h in
         let decks : get_or table 1 0 ≤ 8 =
-        (in_range_facts (options_in table) (read_range table (block-bytes (q + 1) inside) (block_length (q + 1) inside) (loaded_table start table number.0))).decks-most in
+        (in_range_facts (options_in table) (read_range table (block-bytes (q + 1) inside) (block_length (q + 1) inside) (loaded_table start table number.0))).decks_most in
         let second : 512 * q + 513 ≡ 512 * (q + 1) + 1 = omega arith in
         let cards : 512 * q + 544 ≡ 512 * (q + 1) + 32 = omega arith in
         sym (part (q + 1) inside (52 * get_or table 1 0) 32 (omega (arith, decks))

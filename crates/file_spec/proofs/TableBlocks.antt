@@ -52,8 +52,8 @@ padded-split many bytes h =
 options_read : (o : Options) → InRange o → options_in (option_bytes o) ≡ o
 unfolding options_in little_endian
 options_read o facts =
-    ap (λ (c : ℕ). with c (number_of (little_endian 4 o.smallest)) (number_of (little_endian 4 o.largest))) (le_read 2 o.cut (omega (arith, facts.cut_most, facts.decks-most)))
-    ∙ ap₂ (with o.cut) (le_read 4 o.smallest (omega (arith, facts.smallest-most, facts.largest-most))) (le_read 4 o.largest (omega (arith, facts.largest-most)))
+    ap (λ (c : ℕ). with c (number_of (little_endian 4 o.smallest)) (number_of (little_endian 4 o.largest))) (le_read 2 o.cut (omega (arith, facts.cut_most, facts.decks_most)))
+    ∙ ap₂ (with o.cut) (le_read 4 o.smallest (omega (arith, facts.smallest_most, facts.largest_most))) (le_read 4 o.largest (omega (arith, facts.largest_most)))
   where
     with : ℕ → ℕ → ℕ → Options
     with c s l =
@@ -149,19 +149,19 @@ order_bytes decks order valid =
 
 option_bytes_lem : (o : Options) → InRange o → Bytes (option_bytes o)
 option_bytes_lem o facts =
-    cons_all is_byte o.seats _ (lt-ltb o.seats 256 (omega (arith, facts.seats-most))) (
-    cons_all is_byte o.decks _ (lt-ltb o.decks 256 (omega (arith, facts.decks-most))) (
-    cons_all is_byte o.first _ (lt-ltb o.first 256 (omega (arith, facts.first-most))) (
-    cons_all is_byte o.later _ (lt-ltb o.later 256 (omega (arith, facts.later-most))) (
-    cons_all is_byte o.hands _ (lt-ltb o.hands 256 (omega (arith, facts.hands-most))) (
-    cons_all is_byte o.aces _ (lt-ltb o.aces 256 (omega (arith, facts.aces-most))) (
-    cons_all is_byte o.double _ (lt-ltb o.double 256 (omega (arith, facts.double-most))) (
-    cons_all is_byte o.limit _ (lt-ltb o.limit 256 (omega (arith, facts.limit-most))) (
-    cons_all is_byte o.insurance _ (lt-ltb o.insurance 256 (omega (arith, facts.insurance-most))) (
-    cons_all is_byte o.five _ (lt-ltb o.five 256 (omega (arith, facts.five-most))) (
-    cons_all is_byte o.prize _ (lt-ltb o.prize 256 (omega (arith, facts.prize-most))) (
-    cons_all is_byte o.device _ (lt-ltb o.device 256 (omega (arith, facts.device-most))) (
-    cons_all is_byte o.decider _ (lt-ltb o.decider 256 (omega (arith, facts.decider-most))) (
+    cons_all is_byte o.seats _ (lt-ltb o.seats 256 (omega (arith, facts.seats_most))) (
+    cons_all is_byte o.decks _ (lt-ltb o.decks 256 (omega (arith, facts.decks_most))) (
+    cons_all is_byte o.first _ (lt-ltb o.first 256 (omega (arith, facts.first_most))) (
+    cons_all is_byte o.later _ (lt-ltb o.later 256 (omega (arith, facts.later_most))) (
+    cons_all is_byte o.hands _ (lt-ltb o.hands 256 (omega (arith, facts.hands_most))) (
+    cons_all is_byte o.aces _ (lt-ltb o.aces 256 (omega (arith, facts.aces_most))) (
+    cons_all is_byte o.double _ (lt-ltb o.double 256 (omega (arith, facts.double_most))) (
+    cons_all is_byte o.limit _ (lt-ltb o.limit 256 (omega (arith, facts.limit_most))) (
+    cons_all is_byte o.insurance _ (lt-ltb o.insurance 256 (omega (arith, facts.insurance_most))) (
+    cons_all is_byte o.five _ (lt-ltb o.five 256 (omega (arith, facts.five_most))) (
+    cons_all is_byte o.prize _ (lt-ltb o.prize 256 (omega (arith, facts.prize_most))) (
+    cons_all is_byte o.device _ (lt-ltb o.device 256 (omega (arith, facts.device_most))) (
+    cons_all is_byte o.decider _ (lt-ltb o.decider 256 (omega (arith, facts.decider_most))) (
     all_append is_byte (little_endian 2 o.cut ++ little_endian 4 o.smallest) (little_endian 4 o.largest)
     (all_append is_byte (little_endian 2 o.cut) (little_endian 4 o.smallest) (le_bytes 2 o.cut) (le_bytes 4 o.smallest))
     (le_bytes 4 o.largest))))))))))))))
@@ -205,7 +205,7 @@ module _ (o : Options) (order : List ℕ) (range : in_range o ≡ true) (valid :
   whole =
       let left : 508 - length (padded 32 (option_bytes o) ++ order) ≡ 476 - 52 * o.decks = omega (arith, body-length) in
       sealed-content (padded 32 (option_bytes o) ++ order)
-      ∙ padded-split 508 (padded 32 (option_bytes o) ++ order) (omega (arith, body-length, facts.decks-most))
+      ∙ padded-split 508 (padded 32 (option_bytes o) ++ order) (omega (arith, body-length, facts.decks_most))
       ∙ ap₂ (λ (front : List ℕ) (n : ℕ). (front ++ order) ++ replicate n 0) options-padded left
       ∙ append_assoc (option_bytes o ++ between) order behind
       ∙ append_assoc (option_bytes o) between (order ++ behind)
@@ -228,7 +228,7 @@ module _ (o : Options) (order : List ℕ) (range : in_range o ≡ true) (valid :
   pub table_order_lem : order_in block ≡ order
   table_order_lem =
       ap (λ (n : ℕ). take (52 * n) (drop 32 block)) decks-are
-      ∙ sym (part_of_take (52 * o.decks) 32 508 block (omega (arith, facts.decks-most)))
+      ∙ sym (part_of_take (52 * o.decks) 32 508 block (omega (arith, facts.decks_most)))
       ∙ ap (take (52 * o.decks)) past-options
       ∙ take_at order behind (52 * o.decks) cards
 
@@ -319,7 +319,7 @@ module _ (block : List ℕ) (bytes : Bytes block) (len : length block ≡ 512) (
   unfolding table_conditions options_in
   parts =
       let n : ℕ = cards_in block in
-      let room : n ≤ 416 = omega (arith, (in_range_facts (options_in block) read_range).decks-most) in
+      let room : n ≤ 416 = omega (arith, (in_range_facts (options_in block) read_range).decks_most) in
       let c : List ℕ = content block in
       let long : length c ≡ 508 = length-take-le 508 block (omega arith) in
       let front : take 23 c ≡ option_bytes (options_in block) = take-take 23 508 block (omega arith) ∙ sym (written_options block bytes (omega arith)) in

@@ -28,7 +28,7 @@ use Rattle.file_spec.proofs.Alls.{all_cons, cons_all}
 use Rattle.file_spec.proofs.Pieces.{is_sized, Sized, AllBytes, joined, joined_length, joined_bytes, joined-pieces, pieces-joined}
 use Rattle.file_spec.proofs.TableBlocks.{table_length, table_options, table_order_lem, table_bytes, table_accepted}
 use Rattle.file_spec.proofs.CallBlocks.{calls-length, calls_bytes}
-use Rattle.file_spec.proofs.Files.{now, now_length, now_fits, writable_facts, behind-accepted, handed_out}
+use Rattle.file_spec.proofs.Files.{now, now-length, now-fits, writable_facts, behind-accepted, handed_out}
 
 -- a file of blocks, taken apart
 pub blocks_of : (blocks : List (List ℕ)) → Sized 512 blocks → file_blocks (joined blocks) ≡ blocks
@@ -59,7 +59,7 @@ module _ (o : Options) (f : List ℕ → Bool) (of_calls : (calls : List Call) �
   one_more calls e es false true l g lent this rest more room = cons_all f (call_block (now calls e.call)) (blocks_behind o [] es) this rest
   one_more calls e es false false l g lent this rest more room =
       let other : length (now calls e.call) ≡ 50 → ⊥ = eqb-false (length (now calls e.call)) most g in
-      more (omega (arith, now_length calls e.call, other))
+      more (omega (arith, now-length calls e.call, other))
 
   all-behind : (calls : List Call) (es : List Entry) → all_of fits calls ≡ true → length calls < 50 → all_of (writable o) es ≡ true → all_of f (blocks_behind o calls es) ≡ true
   unfolding blocks_behind all_of
@@ -68,9 +68,9 @@ module _ (o : Options) (f : List ℕ → Bool) (of_calls : (calls : List Call) �
   all-behind calls (e ∷ es) fit room ok =
       let (one_ok, more-ok) = all_cons (writable o) e es ok in
       let (one-fits, lent) = writable_facts o e one_ok in
-      let fit-now = now_fits calls e.call fit one-fits in
+      let fit-now = now-fits calls e.call fit one-fits in
       one_more calls e es (is_load e) (eqb (length (now calls e.call)) most) refl refl lent
-      (of_calls (now calls e.call) fit-now (omega (arith, now_length calls e.call)) (omega (arith, now_length calls e.call)))
+      (of_calls (now calls e.call) fit-now (omega (arith, now-length calls e.call)) (omega (arith, now-length calls e.call)))
       (all-behind [] es refl (omega arith) more-ok)
       (λ room-now. all-behind (now calls e.call) es fit-now room-now more-ok)
       room

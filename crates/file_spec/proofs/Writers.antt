@@ -20,12 +20,12 @@ use Rattle.file_spec.specs.File.{writable, blocks_behind, file_of}
 use Rattle.file_spec.specs.Writer.{Written, block_of, written, begun, added, ended, writes}
 use Rattle.file_spec.proofs.Alls.{all_cons}
 use Rattle.file_spec.proofs.Pieces.{joined}
-use Rattle.file_spec.proofs.Files.{now, now_length}
+use Rattle.file_spec.proofs.Files.{now, now-length}
 
-flat_now : (calls : List Call) (c : Call) → flat call_bytes (now calls c) ≡ flat call_bytes calls ++ call_bytes c
+flat-now : (calls : List Call) (c : Call) → flat call_bytes (now calls c) ≡ flat call_bytes calls ++ call_bytes c
 unfolding flat
-flat_now [] c = append-nil (call_bytes c)
-flat_now (x ∷ calls) c = ap (λ (l : List ℕ). call_bytes x ++ l) (flat_now calls c) ∙ sym (append_assoc (call_bytes x) (flat call_bytes calls) (call_bytes c))
+flat-now [] c = append-nil (call_bytes c)
+flat-now (x ∷ calls) c = ap (λ (l : List ℕ). call_bytes x ++ l) (flat-now calls c) ∙ sym (append_assoc (call_bytes x) (flat call_bytes calls) (call_bytes c))
 
 module _ (o : Options) where
   -- a call that can be written, where there is room
@@ -46,7 +46,7 @@ module _ (o : Options) where
 
     same_block : block_of (length calls + 1) (flat call_bytes calls ++ call_bytes e.call) ≡ full
     unfolding call_block
-    same_block = ap₂ block_of (sym (now_length calls e.call)) (sym (flat_now calls e.call))
+    same_block = ap₂ block_of (sym (now-length calls e.call)) (sym (flat-now calls e.call))
 
     one_more : (load last : Bool) → eqb (length (now calls e.call)) most ≡ last → length calls < 50 → writes o 0 [] es ≡ blocks_behind o [] es
         → (length (now calls e.call) < 50 → writes o (length (now calls e.call)) (flat call_bytes (now calls e.call)) es ≡ blocks_behind o (now calls e.call) es)
@@ -59,8 +59,8 @@ module _ (o : Options) where
     one_more false true f room rest more = ap₂ ◌∷◌ same_block rest
     one_more false false f room rest more =
         let other : length (now calls e.call) ≡ 50 → ⊥ = eqb-false (length (now calls e.call)) most f in
-        ap₂ (λ (n : ℕ) (l : List ℕ). writes o n l es) (sym (now_length calls e.call)) (sym (flat_now calls e.call))
-        ∙ more (omega (arith, now_length calls e.call, other))
+        ap₂ (λ (n : ℕ) (l : List ℕ). writes o n l es) (sym (now-length calls e.call)) (sym (flat-now calls e.call))
+        ∙ more (omega (arith, now-length calls e.call, other))
 
   gives : (calls : List Call) (es : List Entry) → length calls < 50 → all_of (writable o) es ≡ true → writes o (length calls) (flat call_bytes calls) es ≡ blocks_behind o calls es
   unfolding writes ended blocks_behind call_block flat
@@ -75,7 +75,7 @@ module _ (o : Options) where
       (cond (is_load e) (written (block_of (length calls + 1) (flat call_bytes calls ++ call_bytes e.call) ∷ table_block o e.order ∷ []) 0 [])
       (cond (eqb k most) (written (block_of (length calls + 1) (flat call_bytes calls ++ call_bytes e.call) ∷ []) 0 []) (written [] (length calls + 1) (flat call_bytes calls ++ call_bytes e.call))))
       es)
-      (sym (now_length calls e.call))
+      (sym (now-length calls e.call))
       ∙ one_more calls e es (is_load e) (eqb (length (now calls e.call)) most) refl room (gives [] es (omega arith) more-ok) (λ more_Room. gives (now calls e.call) es more_Room more-ok)
 
   pub writer_gives : (order : List ℕ) (es : List Entry) → in_range o ≡ true → valid_order o.decks order ≡ true → all_of (writable o) es ≡ true

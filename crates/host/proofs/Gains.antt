@@ -19,5 +19,5 @@ unfolding close_effect
 purse_gained t shaped i p hi hp =
     let paid : Seat → Seat = paid_seat t.options (close_score t) in
     let there : get_or (map paid t.seats) i missing_seat ≡ paid (seat_at t i) =
-    get_d_any (map paid t.seats) i missing_seat (paid missing_seat) (omega (arith, length-map t.seats paid, shaped.nine-seats)) ∙ get_or-map paid t.seats i missing_seat in
+    get_d_any (map paid t.seats) i missing_seat (paid missing_seat) (omega (arith, length-map t.seats paid, shaped.nine_seats_lem)) ∙ get_or-map paid t.seats i missing_seat in
     ap (λ (s : Seat). purse (guest_at s p)) there ∙ cleared-purse (paid_purse t.options (close_score t)) (seat_at t i) p (λ far. absurd (omega arith))

@@ -40,7 +40,7 @@ unfolding stake_permitted
 stake-most o S range h =
     let (both, even) = (and-eq-true_iff (leb o.smallest S && leb S o.largest) _).0 h in
     let (least, most) = (and-eq-true_iff (leb o.smallest S) (leb S o.largest)).0 both in
-    omega (arith, leb-true S o.largest most, range.largest-most)
+    omega (arith, leb-true S o.largest most, range.largest_most)
 
 module _ (t : Table) (shaped : Shaped t) (e : first (close_conditions t) ≡ 0) (i p : ℕ) (hi : i < 9) (hp : p < 3) where
   ok : CloseAccepted t
@@ -53,14 +53,14 @@ module _ (t : Table) (shaped : Shaped t) (e : first (close_conditions t) ≡ 0) 
   guest = (dealt_seat_lem t ok.sound ok.dealt i hi).guests p hp
 
   full : length s.hands.places ≡ 4
-  full = ap (λ (hs : SeatHands). length hs.places) (guest-hands (seat_at t i) p) ∙ (shaped.seats i hi).four-places
+  full = ap (λ (hs : SeatHands). length hs.places) (guest-hands (seat_at t i) p) ∙ (shaped.seats i hi).four_places
 
   small-stake : stake s ≤ 1000000
   small-stake = go (dec_le (stake s) 0)
     where
       go : Dec (stake s ≤ 0) → stake s ≤ 1000000
       go (yes none) = omega arith
-      go (no some) = stake-most t.options (stake s) (sound_options t ok.sound) (guest.stake-fits (omega arith))
+      go (no some) = stake-most t.options (stake s) (sound_options t ok.sound) (guest.stake_fits (omega arith))
 
   insured : insurance s ≤ stake s
   insured = insured-most t.options (up t) i s guest
@@ -70,7 +70,7 @@ module _ (t : Table) (shaped : Shaped t) (e : first (close_conditions t) ≡ 0) 
     where
       go : Dec (get_or (sides s) k 0 ≤ 0) → get_or (sides s) k 0 ≤ 100000
       go (yes none) = omega arith
-      go (no some) = (guest.sides-fit k h (omega arith)).1
+      go (no some) = (guest.sides_fit k h (omega arith)).1
 
   pub round-laid : laid s ≤ most_laid
   round-laid = omega (arith, laid-most s full, small-stake, insured, side-most 0 (omega arith), side-most 1 (omega arith), side-most 2 (omega arith), side-most 3 (omega arith))
@@ -79,7 +79,7 @@ module _ (t : Table) (shaped : Shaped t) (e : first (close_conditions t) ≡ 0) 
   round_back =
       omega (
         arith,
-        guest-most t.options (up t) i (seat_at t i) (dealt_seat_lem t ok.sound ok.dealt i hi) (sound_options t ok.sound).hands-most (close_score t) p hp,
+        guest-most t.options (up t) i (seat_at t i) (dealt_seat_lem t ok.sound ok.dealt i hi) (sound_options t ok.sound).hands_most (close_score t) p hp,
         round-laid,
         small-stake,
         side-most 0 (omega arith),

@@ -83,14 +83,14 @@ module _ (opening : List ℕ) (hs : List HostEntry) (t : Table) (order : List �
   round-diff : Diff round.gain (came_back t after i p) (laid (guest_of t i p))
   round-diff =
       let a = (good.agrees.seats i).guests p in
-      subst₂ (λ (x y : ℕ). Diff round.gain x y) (ap (λ (n : ℕ). guest_back o (close_score t) (guest_of t i p) + n) (sym a.prizes-are) ∙ sym back_is) (omega arith)
+      subst₂ (λ (x y : ℕ). Diff round.gain x y) (ap (λ (n : ℕ). guest_back o (close_score t) (guest_of t i p) + n) (sym a.prizes_are) ∙ sym back_is) (omega arith)
       (diff_add gain.nets (diff_pos _))
 
-  laid-is : laid (guest_of t i p) ≡ round.laid
-  laid-is = ((good.agrees.seats i).guests p).laid-is
+  laid_is : laid (guest_of t i p) ≡ round.laid
+  laid_is = ((good.agrees.seats i).guests p).laid_is
 
   staked-is : is_staked (guest_of t i p) ≡ ltb 0 (stake_in es i p)
-  staked-is = ap (ltb 0) ((good.agrees.seats i).guests p).stake-is
+  staked-is = ap (ltb 0) ((good.agrees.seats i).guests p).stake_is
 
   abbrev was : List ClosedRound
   was = rounds_since o opening hs i p
@@ -98,7 +98,7 @@ module _ (opening : List ℕ) (hs : List HostEntry) (t : Table) (order : List �
   -- a round in which the position staked, for the card there
   module _ (g : GuestCard) (here : is_here g ≡ true) (claim : TallyClaim o opening hs i p g) where
     counted-length : g.tally.rounds ≡ length was - (length was - most_rounds)
-    counted-length = claim.rounds-are here ∙ first-length most_rounds was
+    counted-length = claim.rounds_are here ∙ first-length most_rounds was
 
     module _ (few : g.tally.rounds < most_rounds) where
       room : length was < most_rounds
@@ -116,14 +116,14 @@ module _ (opening : List ℕ) (hs : List HostEntry) (t : Table) (order : List �
       wagered-more : g.tally.wagered + laid (guest_of t i p) ≡ sum_of (λ r. r.laid) (first_ones most_rounds (round ∷ was))
       unfolding sum_of
       wagered-more =
-          omega (arith, claim.wagered-is here, ap (sum_of (λ (r : ClosedRound). r.laid)) before, laid-is)
+          omega (arith, claim.wagered_is here, ap (sum_of (λ (r : ClosedRound). r.laid)) before, laid_is)
           ∙ ap (sum_of (λ (r : ClosedRound). r.laid)) (sym now)
 
       net-moves : net (with_round g.tally (laid (guest_of t i p)) (came_back t after i p)) ≡ gains (first_ones most_rounds (round ∷ was))
       unfolding gains
       net-moves =
           net_more g.tally (laid (guest_of t i p)) (came_back t after i p) round.gain round-diff
-          ∙ ap (λ (z : ℤ). round.gain +ℤ z) (claim.net-is here ∙ ap gains before)
+          ∙ ap (λ (z : ℤ). round.gain +ℤ z) (claim.net_is here ∙ ap gains before)
           ∙ ap gains (sym now)
 
     still : most_rounds ≤ g.tally.rounds → first_ones most_rounds (round ∷ was) ≡ first_ones most_rounds was
@@ -146,16 +146,16 @@ module _ (opening : List ℕ) (hs : List HostEntry) (t : Table) (order : List �
     by_cases : (here staked few : Bool) → is_here g ≡ here → ltb g.tally.rounds most_rounds ≡ few → Tallied (cond staked (round ∷ was) was) (cond (here && staked && few) more g)
     by_cases false staked few h f =
         record {
-          card_is = claim.card-is;
+          card_is = claim.card_is;
           rounds_are = λ sits. absurd (true≢false (sym sits ∙ h));
           wagered_is = λ sits. absurd (true≢false (sym sits ∙ h));
           net_is = λ sits. absurd (true≢false (sym sits ∙ h));
         }
-    by_cases true false few h f = record { card_is = claim.card-is; rounds_are = claim.rounds-are; wagered_is = claim.wagered-is; net_is = claim.net-is }
+    by_cases true false few h f = record { card_is = claim.card_is; rounds_are = claim.rounds_are; wagered_is = claim.wagered_is; net_is = claim.net_is }
     by_cases true true true h f =
         let room = ltb-true g.tally.rounds most_rounds f in
         record {
-          card_is = claim.card-is;
+          card_is = claim.card_is;
           rounds_are = λ sits. rounds-more g h claim room;
           wagered_is = λ sits. wagered-more g h claim room;
           net_is = λ sits. net-moves g h claim room;
@@ -163,10 +163,10 @@ module _ (opening : List ℕ) (hs : List HostEntry) (t : Table) (order : List �
     by_cases true true false h f =
         let full = still g h claim (ltb-false g.tally.rounds most_rounds f) in
         record {
-          card_is = claim.card-is;
-          rounds_are = λ sits. claim.rounds-are sits ∙ ap length (sym full);
-          wagered_is = λ sits. claim.wagered-is sits ∙ ap (sum_of (λ (r : ClosedRound). r.laid)) (sym full);
-          net_is = λ sits. claim.net-is sits ∙ ap gains (sym full);
+          card_is = claim.card_is;
+          rounds_are = λ sits. claim.rounds_are sits ∙ ap length (sym full);
+          wagered_is = λ sits. claim.wagered_is sits ∙ ap (sum_of (λ (r : ClosedRound). r.laid)) (sym full);
+          net_is = λ sits. claim.net_is sits ∙ ap gains (sym full);
         }
 
     pub close_tally : TallyClaim o opening (closed ∷ hs) i p (counted_card t after i p g)
@@ -174,4 +174,4 @@ module _ (opening : List ℕ) (hs : List HostEntry) (t : Table) (order : List �
     close_tally =
         let c : Tallied (cond (ltb 0 (stake_in es i p)) (round ∷ was) was) (counted_card t after i p g) =
         subst (λ (staked : Bool). Tallied (cond staked (round ∷ was) was) (counted_card t after i p g)) staked-is (by_cases (is_here g) (is_staked (guest_of t i p)) (ltb g.tally.rounds most_rounds) refl refl) in
-        record { card_is = c.card-is; rounds_are = c.rounds-are; wagered_is = c.wagered-is; net_is = c.net-is }
+        record { card_is = c.card_is; rounds_are = c.rounds_are; wagered_is = c.wagered_is; net_is = c.net_is }

@@ -81,10 +81,10 @@ same_claim : (o : Options) (opening : List ℕ) (hs later : List HostEntry) (i p
     → TallyClaim o opening hs i p g → TallyClaim o opening later i p g
 same_claim o opening hs later i p g seated rounds c =
     record {
-      card_is = c.card-is ∙ sym seated;
-      rounds_are = λ here. c.rounds-are here ∙ ap (λ (rs : List ClosedRound). length (first_of rs)) (sym rounds);
-      wagered_is = λ here. c.wagered-is here ∙ ap (λ (rs : List ClosedRound). sum_of (λ r. r.laid) (first_of rs)) (sym rounds);
-      net_is = λ here. c.net-is here ∙ ap (λ (rs : List ClosedRound). gains (first_of rs)) (sym rounds);
+      card_is = c.card_is ∙ sym seated;
+      rounds_are = λ here. c.rounds_are here ∙ ap (λ (rs : List ClosedRound). length (first_of rs)) (sym rounds);
+      wagered_is = λ here. c.wagered_is here ∙ ap (λ (rs : List ClosedRound). sum_of (λ r. r.laid) (first_of rs)) (sym rounds);
+      net_is = λ here. c.net_is here ∙ ap (λ (rs : List ClosedRound). gains (first_of rs)) (sym rounds);
     }
   where
     first_of : List ClosedRound → List ClosedRound
@@ -232,7 +232,7 @@ module _ (o : Options) (opening : List ℕ) (hs : List HostEntry) (h : Hosted) (
     place = place_at at.seat at.position
 
     inside : place < 27
-    inside = omega (arith, arrives.seat, arrives.position, subst (λ (x : Options). x.seats ≤ 9) g.same (sound_options h.table g.good.sound).seats-most)
+    inside = omega (arith, arrives.seat, arrives.position, subst (λ (x : Options). x.seats ≤ 9) g.same (sound_options h.table g.good.sound).seats_most)
 
     abbrev later : List HostEntry
     later = entry_of (Arrive at card) order ∷ hs
@@ -293,14 +293,14 @@ module _ (o : Options) (opening : List ℕ) (hs : List HostEntry) (h : Hosted) (
         ap (λ (k : ℕ). card_in (card_of h.cards k)) here
         ∙ ap₂ (λ (b : Bool) (c : ℕ). cond b (c ∷ []) []) left-holds.0 left-holds.1 in
         let gone : cond (any_of (eqb card) (seated_in hs i p)) [] (seated_in hs i p) ≡ [] =
-        ap (λ (cs : List ℕ). cond (any_of (eqb card) cs) [] cs) (sym claim.card-is ∙ was) ∙ ap (λ (b : Bool). cond b [] (card ∷ [])) (any_one (eqb card) card ∙ eq-eqb card card refl) in
+        ap (λ (cs : List ℕ). cond (any_of (eqb card) cs) [] cs) (sym claim.card_is ∙ was) ∙ ap (λ (b : Bool). cond b [] (card ∷ [])) (any_one (eqb card) card ∙ eq-eqb card card refl) in
         subst (TallyClaim o opening without i p) (sym (ap (λ (k : ℕ). get_or (with_card h left no_card).cards k no_card) here ∙ put_there h left no_card g.long left_inside))
         (record { card_is = sym gone; rounds_are = λ here. absurd (true≢false (sym here)); wagered_is = λ here. absurd (true≢false (sym here)); net_is = λ here. absurd (true≢false (sym here)) })
     tally-left i p hi hp (no other) claim =
         let not-it : holds card (card_at h i p) ≡ false =
         ap (λ (c : ℕ). holds c (card_at h i p)) (sym left-holds.1) ∙ g.sound.once left (place_at i p) left_inside (omega arith) (λ same. other (sym same)) left-holds.0 in
         let stays : cond (any_of (eqb card) (seated_in hs i p)) [] (seated_in hs i p) ≡ seated_in hs i p =
-        ap (λ (b : Bool). cond b [] (seated_in hs i p)) (ap (any_of (eqb card)) (sym claim.card-is) ∙ not_held card (card_at h i p) not-it) in
+        ap (λ (b : Bool). cond b [] (seated_in hs i p)) (ap (any_of (eqb card)) (sym claim.card_is) ∙ not_held card (card_at h i p) not-it) in
         subst (TallyClaim o opening without i p) (sym (put_elsewhere h left no_card g.long (place_at i p) other))
         (same_claim o opening hs without i p (card_at h i p) stays refl claim)
 

@@ -21,5 +21,5 @@ module _ {A B : Type 0} where
   flat-take f (x ∷ xs) (suc i) d h = ap (λ (ys : List B). f x ++ ys) (flat-take f xs i d (le_of_suc-le-suc h)) ∙ sym (append_assoc (f x) (flat f (take i xs)) (f (get_or xs i d)))
 
   -- the first i + 1 elements: the first i, and the one at i
-  pub flat_next : (f : A → List B) (xs : List A) (i : ℕ) (d : A) → i < length xs → flat f (take (i + 1) xs) ≡ flat f (take i xs) ++ f (get_or xs i d)
-  flat_next f xs i d h = ap (λ (n : ℕ). flat f (take n xs)) (add-one i) ∙ flat-take f xs i d h
+  pub flat-next : (f : A → List B) (xs : List A) (i : ℕ) (d : A) → i < length xs → flat f (take (i + 1) xs) ≡ flat f (take i xs) ++ f (get_or xs i d)
+  flat-next f xs i d h = ap (λ (n : ℕ). flat f (take n xs)) (add-one i) ∙ flat-take f xs i d h

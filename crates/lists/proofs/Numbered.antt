@@ -17,10 +17,10 @@ module _ {A : Type 0} where
   those-cons true x xs ys = refl
   those-cons false x xs ys = refl
 
-  pub those_append : (f : A → Bool) (xs ys : List A) → those f (xs ++ ys) ≡ those f xs ++ those f ys
+  pub those-append : (f : A → Bool) (xs ys : List A) → those f (xs ++ ys) ≡ those f xs ++ those f ys
   unfolding those
-  those_append f [] ys = refl
-  those_append f (x ∷ xs) ys = rw (those_append f xs ys) (those-cons (f x) x (those f xs) (those f ys))
+  those-append f [] ys = refl
+  those-append f (x ∷ xs) ys = rw (those-append f xs ys) (those-cons (f x) x (those f xs) (those f ys))
 
 module _ {A B : Type 0} (all : ℕ → List A → List B) (one : ℕ → A → List B) (none : (i : ℕ) → all i [] ≡ []) (more : (i : ℕ) (x : A) (xs : List A) → all i (x ∷ xs) ≡ one i x ++ all (suc i) xs) where
   numbered-take : (k i : ℕ) (xs : List A) (d : A) → k < length xs → all i (take (suc k) xs) ≡ all i (take k xs) ++ one (i + k) (get_or xs k d)
@@ -46,7 +46,7 @@ module _ {A B : Type 0} (all : ℕ → List A → List B) (one : ℕ → A → L
     unfolding those
     those-past i [] h = rw none
     those-past i (x ∷ xs) h =
-        ap (those test) (more i x xs) ∙ those_append test (one i x) (all (suc i) xs)
+        ap (those test) (more i x xs) ∙ those-append test (one i x) (all (suc i) xs)
         ∙ rw (other i x (λ same. omega arith), those-past (suc i) xs (omega arith))
 
     those-from : (k i : ℕ) (xs : List A) (d : A) → i + k ≡ n → those test (all i xs) ≡ cond (ltb k (length xs)) (those test (one n (get_or xs k d))) []
@@ -54,11 +54,11 @@ module _ {A B : Type 0} (all : ℕ → List A → List B) (one : ℕ → A → L
     those-from k i [] d e = rw (none, le-ltb k 0 (omega arith))
     those-from zero i (x ∷ xs) d e =
         let same : i ≡ n = omega arith in
-        ap (those test) (more i x xs) ∙ those_append test (one i x) (all (suc i) xs)
+        ap (those test) (more i x xs) ∙ those-append test (one i x) (all (suc i) xs)
         ∙ rw (those-past (suc i) xs (omega arith), same, lt-ltb 0 (suc (length xs)) (omega arith)) (append-nil (those test (one n x)))
     those-from (suc k) i (x ∷ xs) d e =
         let step : ltb (suc k) (suc (length xs)) ≡ ltb k (length xs) = ltb_same (suc k) (suc (length xs)) k (length xs) (λ h. omega arith) (λ h. omega arith) in
-        ap (those test) (more i x xs) ∙ those_append test (one i x) (all (suc i) xs)
+        ap (those test) (more i x xs) ∙ those-append test (one i x) (all (suc i) xs)
         ∙ rw (other i x (λ same. omega arith), step) (those-from k (suc i) xs d (omega arith))
 
     pub those_numbered : (xs : List A) (d : A) → those test (all 0 xs) ≡ cond (ltb n (length xs)) (those test (one n (get_or xs n d))) []

@@ -46,5 +46,5 @@ module _ {A : Type 0} where
   sum_more f xs n m = rw (take-add, sum-append)
 
   -- the elements before a place, and the one there
-  pub sum_before : (f : A → ℕ) (xs : List A) (i : ℕ) (d : A) → i < length xs → sum_of f (take i xs) + f (get_or xs i d) ≤ sum_of f xs
-  sum_before f xs i d h = omega (arith, sum-take f xs i d h, sum-append f (take (suc i) xs) (drop (suc i) xs), ap (sum_of f) (take-append-drop (suc i) xs))
+  pub sum-before : (f : A → ℕ) (xs : List A) (i : ℕ) (d : A) → i < length xs → sum_of f (take i xs) + f (get_or xs i d) ≤ sum_of f xs
+  sum-before f xs i d h = omega (arith, sum-take f xs i d h, sum-append f (take (suc i) xs) (drop (suc i) xs), ap (sum_of f) (take-append-drop (suc i) xs))

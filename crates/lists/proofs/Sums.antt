@@ -127,7 +127,7 @@ module _ {A B : Type 0} where
   sum-map f g [] = refl
   sum-map f g (x ∷ xs) = ap (λ (n : ℕ). f (g x) + n) (sum-map f g xs)
 
-  pub sum_flat : (f : B → ℕ) (g : A → List B) (xs : List A) → sum_of f (flat g xs) ≡ sum_of (λ x. sum_of f (g x)) xs
+  pub sum-flat : (f : B → ℕ) (g : A → List B) (xs : List A) → sum_of f (flat g xs) ≡ sum_of (λ x. sum_of f (g x)) xs
   unfolding sum_of flat
-  sum_flat f g [] = refl
-  sum_flat f g (x ∷ xs) = sum-append f (g x) (flat g xs) ∙ ap (λ (n : ℕ). sum_of f (g x) + n) (sum_flat f g xs)
+  sum-flat f g [] = refl
+  sum-flat f g (x ∷ xs) = sum-append f (g x) (flat g xs) ∙ ap (λ (n : ℕ). sum_of f (g x) + n) (sum-flat f g xs)

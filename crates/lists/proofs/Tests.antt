@@ -214,10 +214,10 @@ module _ {A : Type 0} where
       go false e k rec = rec (le_of_suc-le-suc k)
 
   -- and nothing before it does
-  pub before_first : (f : A → Bool) (xs : List A) (d : A) (k : ℕ) → k < first_place f xs → f (get_or xs k d) ≡ false
+  pub before-first : (f : A → Bool) (xs : List A) (d : A) (k : ℕ) → k < first_place f xs → f (get_or xs k d) ≡ false
   unfolding first_place
-  before_first f [] d k h = absurd (not-suc-le-zero h)
-  before_first f (x ∷ xs) d k h = go (f x) refl k h (before_first f xs d)
+  before-first f [] d k h = absurd (not-suc-le-zero h)
+  before-first f (x ∷ xs) d k h = go (f x) refl k h (before-first f xs d)
     where
       go : (b : Bool) → f x ≡ b → (k : ℕ) → k < cond b 0 (suc (first_place f xs)) → ((k : ℕ) → k < first_place f xs → f (get_or xs k d) ≡ false) → f (get_or (x ∷ xs) k d) ≡ false
       go true e k l rec = absurd (not-suc-le-zero l)

@@ -54,7 +54,7 @@ as_before t c order seated only =
     let effects = same_effect t only c order seated in
     record {
       same_step = reply_same (conditions t c order) (conditions_one t c order) _ _ _ _ t number (ap₂ (λ (x : Shown) (y : Table). cond (eqb (kind c) 15) x (scored (hand_scores t c y))) (close_shown_one_lem t only) effects) effects;
-      only-seated = go (eqb (first (conditions t c order)) 0);
+      only_seated = go (eqb (first (conditions t c order)) 0);
     }
   where
     go : (b : Bool) → OnlySeated (cond b (effect t c order) t)

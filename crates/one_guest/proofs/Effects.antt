@@ -10,7 +10,7 @@ use Rattle.call.specs.Call.{position}
 use Rattle.options.specs.declared.Options.{Options}
 use Rattle.rules.specs.SeatHand.{Played, played_of, not_ended, by_double}
 use Rattle.payment.specs.Prize.{prize}
-use Rattle.payment.proofs.Bounds.{prize-most}
+use Rattle.payment.proofs.Bounds.{prize_most}
 use Rattle.table.specs.declared.Seat.{Seat}
 use Rattle.table.specs.declared.Table.{Table}
 use Rattle.table.specs.Guest.{holding}
@@ -36,7 +36,7 @@ use Rattle.one_guest.proofs.Sums.{layout-one, prizes_one_lem, back_one}
 
 -- a prize of no stake is none
 no_prize : (o : Options) (h : Played) → prize o 0 h ≡ 0
-no_prize o h = omega (arith, prize-most o 0 h)
+no_prize o h = omega (arith, prize_most o 0 h)
 
 module _ (t : Table) (only : OnlySeated t) (j : ℕ) where
   pub card_one_lem : (times code more : ℕ) → times * stake (seat_at t j) ≡ more → card_effect times code t j ≡ card_one more code t j

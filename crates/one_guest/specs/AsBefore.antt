@@ -24,7 +24,7 @@ step_one t c order = reply_by (conditions_one t c order) (cond (eqb (kind c) 15)
 -- What is claimed of such a table and a call of a seated guest, or of the house.
 pub record AsBefore (t : Table) (c : Call) (order : List ℕ) : Type 0 where
   pub same_step : step t c order ≡ step_one t c order
-  pub only-seated : OnlySeated (next t c order)
+  pub only_seated : OnlySeated (next t c order)
 
 abbrev pub SeatedAsBefore : Type 0
 SeatedAsBefore = (t : Table) (c : Call) (order : List ℕ) → position c ≡ 0 → OnlySeated t → AsBefore t c order

@@ -32,9 +32,9 @@ unfolding wager
 wager-double S h doubled = simp (eq-eqb h.ended by_double doubled)
 
 module _ (o : Options) (S : ℕ) where
-  pub prize-most : (h : Played) → prize o S h ≤ most_prize S
+  pub prize_most : (h : Played) → prize o S h ≤ most_prize S
   unfolding prize
-  prize-most h = cond_most (eqb o.prize 1 && is_prize_hand h.cards) (omega (arith, wager_bounds S h)) (omega arith)
+  prize_most h = cond_most (eqb o.prize 1 && is_prize_hand h.cards) (omega (arith, wager_bounds S h)) (omega arith)
 
   pub prize-none : (h : Played) → is_prize_hand h.cards ≡ false → prize o S h ≡ 0
   unfolding prize
@@ -46,4 +46,4 @@ module _ (o : Options) (S : ℕ) where
   prize-same h g same laid = simp (same, laid)
 
   pub seat-prizes : (hands : List Played) → length hands ≤ 4 → sum_of (prize o S) hands ≤ 4 * most_prize S
-  seat-prizes hands few = omega (arith, mul-le-mul_left (most_prize S) few, sum-most (prize o S) (most_prize S) prize-most hands)
+  seat-prizes hands few = omega (arith, mul-le-mul_left (most_prize S) few, sum-most (prize o S) (most_prize S) prize_most hands)

@@ -55,5 +55,5 @@ cover-fits =
       pair_wins = λ n. refl;
       sevens_win = λ n. refl;
       more_wins = λ n. refl;
-      less-wins = λ n. refl;
+      less_wins = λ n. refl;
     }

@@ -17,20 +17,20 @@ pub rehearsal_hands : RehearsalHands
 unfolding sum_of any_of points_of total is_natural is_pair natural must_draw wager hand_back against_bank against_natural by_totals insurance_pay
 rehearsal_hands =
     record {
-      ace-ace = refl;
-      ace-nine-ace = refl;
-      longest-total = refl;
-      longest-length = refl;
-      jack-queen = refl;
-      split-total = refl;
+      ace_ace = refl;
+      ace_nine_ace = refl;
+      longest_total = refl;
+      longest_length = refl;
+      jack_queen = refl;
+      split_total = refl;
       split_no_natural = refl;
       aces_no_natural = refl;
-      bank-total = refl;
+      bank_total = refl;
       bank_stands = refl;
-      natural-wins = λ limit. refl;
+      natural_wins = λ limit. refl;
       doubled_limited = refl;
-      doubled-whole = refl;
+      doubled_whole = refl;
       surrendered = λ limit bank. refl;
-      five-cards = λ limit bank. refl;
+      five_cards = λ limit bank. refl;
       insured = refl;
     }

@@ -35,4 +35,4 @@ pub record CoverFits : Type 0 where
   pub pair_wins : (n : ℕ) → side_pay 1 n (9 ∷ 22 ∷ []) ≡ pay n (n + 11 * n)
   pub sevens_win : (n : ℕ) → side_pay 2 n (6 ∷ 6 ∷ 6 ∷ []) ≡ pay n (n + 5000 * n)
   pub more_wins : (n : ℕ) → side_pay 3 n (9 ∷ 8 ∷ []) ≡ pay n (n + 1 * n)
-  pub less-wins : (n : ℕ) → side_pay 4 n (1 ∷ 2 ∷ []) ≡ pay n (n + 1 * n)
+  pub less_wins : (n : ℕ) → side_pay 4 n (1 ∷ 2 ∷ []) ≡ pay n (n + 1 * n)

@@ -73,29 +73,29 @@ longest = replicate 10 ace ++ (two ∷ []) ++ replicate 9 ace
 
 pub record RehearsalHands : Type 0 where
   -- A A totals 12.
-  pub ace-ace : total (ace ∷ ace ∷ []) ≡ 12
+  pub ace_ace : total (ace ∷ ace ∷ []) ≡ 12
   -- A 9 A: 21.
-  pub ace-nine-ace : total (ace ∷ nine ∷ ace ∷ []) ≡ 21
+  pub ace_nine_ace : total (ace ∷ nine ∷ ace ∷ []) ≡ 21
   -- Ten aces, a 2, nine aces: 21, twenty cards.
-  pub longest-total : total longest ≡ 21
-  pub longest-length : length longest ≡ 20
+  pub longest_total : total longest ≡ 21
+  pub longest_length : length longest ≡ 20
   -- J Q: no pair.
-  pub jack-queen : is_pair (jack ∷ queen ∷ []) ≡ false
+  pub jack_queen : is_pair (jack ∷ queen ∷ []) ≡ false
   -- A K after a split: 21, no natural; after a split of aces neither.
-  pub split-total : total (ace ∷ king ∷ []) ≡ 21
+  pub split_total : total (ace ∷ king ∷ []) ≡ 21
   pub split_no_natural : natural (hand (ace ∷ king ∷ []) split not_ended) ≡ false
   pub aces_no_natural : natural (hand (ace ∷ king ∷ []) split_aces not_ended) ≡ false
   -- Bank A 6: stands on 17.
-  pub bank-total : total (ace ∷ six ∷ []) ≡ 17
+  pub bank_total : total (ace ∷ six ∷ []) ≡ 17
   pub bank_stands : must_draw (ace ∷ six ∷ []) ≡ false
   -- Natural against a bank's three-card 21: +30, limited or not.
-  pub natural-wins : (limit : ℕ) → net_of limit (ten ∷ six ∷ five ∷ []) (hand (ace ∷ king ∷ []) dealt not_ended) ≡ pos 30
+  pub natural_wins : (limit : ℕ) → net_of limit (ten ∷ six ∷ five ∷ []) (hand (ace ∷ king ∷ []) dealt not_ended) ≡ pos 30
   -- Doubled against a bank natural: −20 limited, −40 not.
   pub doubled_limited : net_of 1 (ace ∷ king ∷ []) (hand (five ∷ six ∷ nine ∷ []) dealt by_double) ≡ neg_ℤ (pos 20)
-  pub doubled-whole : net_of 0 (ace ∷ king ∷ []) (hand (five ∷ six ∷ nine ∷ []) dealt by_double) ≡ neg_ℤ (pos 40)
+  pub doubled_whole : net_of 0 (ace ∷ king ∷ []) (hand (five ∷ six ∷ nine ∷ []) dealt by_double) ≡ neg_ℤ (pos 40)
   -- Surrender: −10, whatever the bank has.
   pub surrendered : (limit : ℕ) (bank : List ℕ) → net_of limit bank (hand (ten ∷ six ∷ []) dealt by_surrender) ≡ neg_ℤ (pos 10)
   -- Five: +10, whatever the bank has.
-  pub five-cards : (limit : ℕ) (bank : List ℕ) → net_of limit bank (hand (two ∷ two ∷ two ∷ two ∷ two ∷ []) dealt by_five) ≡ pos 10
+  pub five_cards : (limit : ℕ) (bank : List ℕ) → net_of limit bank (hand (two ∷ two ∷ two ∷ two ∷ two ∷ []) dealt by_five) ≡ pos 10
   -- Insurance 20: +40.
   pub insured : net (insurance_pay (score_of (ace ∷ king ∷ [])) 20) ≡ pos 40

@@ -59,7 +59,7 @@ module _ (t : Table) (whole : Whole t) (dealt : is_dealt t ≡ true) where
     inside = ltb-true seat (length (seats_hands t)) (first_inside (seat_waits t.options (up t)) (seats_hands t) ∙ some)
 
     nine : seat < 9
-    nine = omega (arith, inside, length-map t.seats hands, whole.shaped.nine-seats)
+    nine = omega (arith, inside, length-map t.seats hands, whole.shaped.nine_seats_lem)
 
     waits_there : seat_waits t.options (up t) (hands (seat_at t seat)) ≡ true
     waits_there =
@@ -81,7 +81,7 @@ module _ (t : Table) (whole : Whole t) (dealt : is_dealt t ≡ true) where
     within = go (dec_le t.options.seats seat)
       where
         go : Dec (t.options.seats ≤ seat) → seat < t.options.seats
-        go (yes beyond) = absurd (omega (arith, has-hand, ((((unbroken t whole.sound).seats seat nine).guests 0 (omega arith)).beyond beyond).no-hands, ap (λ (s : Seat). s.hands.many) (guest-seated (seat_at t seat))))
+        go (yes beyond) = absurd (omega (arith, has-hand, ((((unbroken t whole.sound).seats seat nine).guests 0 (omega arith)).beyond beyond).no_hands, ap (λ (s : Seat). s.hands.many) (guest-seated (seat_at t seat))))
         go (no less) = omega arith
 
     abbrev stakes : ℕ → ℕ

@@ -134,7 +134,7 @@ module _ (o : Options) (opening : List ℕ) (hs : List HostEntry) (b : Bounded o
       waits-here : seat_waits o (get_or cards.bank 0 0) (hands_in o opening es j) ≡ true
       waits-here =
           subst (λ (x : Options). seat_waits x (get_or (cards_of_history x opening es).bank 0 0) (hands_in x opening es j) ≡ true) same
-          (ap₂ (λ (bank : List ℕ) (hs : List Played). seat_waits t.options (get_or bank 0 0) hs) (sym good.agrees.cards.bank) (sym (good.agrees.seats j).hands-are) ∙ a.waits)
+          (ap₂ (λ (bank : List ℕ) (hs : List Played). seat_waits t.options (get_or bank 0 0) hs) (sym good.agrees.cards.bank) (sym (good.agrees.seats j).hands_are) ∙ a.waits)
 
       -- a decision that makes this of the hands of the seat in turn
       decided : (e : Entry) (k : ℕ) (change : List Played → ℕ → List Played)
@@ -160,8 +160,8 @@ module _ (o : Options) (opening : List ℕ) (hs : List HostEntry) (b : Bounded o
     in_round_lem j a = sym dealt_is ∙ a.acting.dealt
 
     -- a hand that ends, that grows, and both
-    ends-one : (hands : List Played) (p : ℕ) (h : Played) → open_hand h ≡ 0 → p < length hands → open_hand (get_or hands p missing_hand) ≡ 1 → open_hands (set hands p h) + 1 ≤ open_hands hands + 0
-    ends-one hands p h ended l one = omega (arith, change_one hands p h l)
+    ends_one : (hands : List Played) (p : ℕ) (h : Played) → open_hand h ≡ 0 → p < length hands → open_hand (get_or hands p missing_hand) ≡ 1 → open_hands (set hands p h) + 1 ≤ open_hands hands + 0
+    ends_one hands p h ended l one = omega (arith, change_one hands p h l)
 
     pub stand-step : (at : At) (order : List ℕ) → first (turn_conditions t at.seat at.position) ≡ 0 → Bounded o opening (entry_of (Play (Stand at)) order ∷ hs)
     unfolding hands_after decide call_takes all_of
@@ -169,7 +169,7 @@ module _ (o : Options) (opening : List ℕ) (hs : List HostEntry) (b : Bounded o
         let (a, _) = turn-accepted t at.seat at.position [] refl (ap first (append-nil (turn_conditions t at.seat at.position)) ∙ e) in
         goes_on_lem (Stand at) order refl refl (in_round_lem at.seat a)
         (decided at.seat a (entry (Stand at) order) 0 (λ hands p. set hands p (finished (get_or hands p missing_hand) by_stand)) (λ i. refl)
-        (λ hands p l one. ends-one hands p (finished (get_or hands p missing_hand) by_stand) refl l one) refl)
+        (λ hands p l one. ends_one hands p (finished (get_or hands p missing_hand) by_stand) refl l one) refl)
 
     pub even_step : (at : At) (order : List ℕ) → first (even_conditions t at.seat at.position) ≡ 0 → Bounded o opening (entry_of (Play (Even at)) order ∷ hs)
     unfolding even_conditions hands_after decide call_takes all_of
@@ -177,7 +177,7 @@ module _ (o : Options) (opening : List ℕ) (hs : List HostEntry) (b : Bounded o
         let (a, _) = turn-accepted t at.seat at.position _ refl e in
         goes_on_lem (Even at) order refl refl (in_round_lem at.seat a)
         (decided at.seat a (entry (Even at) order) 0 (λ hands p. set hands p (finished (get_or hands p missing_hand) by_even)) (λ i. refl)
-        (λ hands p l one. ends-one hands p (finished (get_or hands p missing_hand) by_even) refl l one) refl)
+        (λ hands p l one. ends_one hands p (finished (get_or hands p missing_hand) by_even) refl l one) refl)
 
     pub five-step : (at : At) (order : List ℕ) → first (five_conditions t at.seat at.position) ≡ 0 → Bounded o opening (entry_of (Play (Five at)) order ∷ hs)
     unfolding five_conditions hands_after decide call_takes all_of
@@ -185,7 +185,7 @@ module _ (o : Options) (opening : List ℕ) (hs : List HostEntry) (b : Bounded o
         let (a, _) = turn-accepted t at.seat at.position _ refl e in
         goes_on_lem (Five at) order refl refl (in_round_lem at.seat a)
         (decided at.seat a (entry (Five at) order) 0 (λ hands p. set hands p (finished (get_or hands p missing_hand) by_five)) (λ i. refl)
-        (λ hands p l one. ends-one hands p (finished (get_or hands p missing_hand) by_five) refl l one) refl)
+        (λ hands p l one. ends_one hands p (finished (get_or hands p missing_hand) by_five) refl l one) refl)
 
     pub draw-step : (at : At) (order : List ℕ) → first (draw_conditions t at.seat at.position) ≡ 0 → Bounded o opening (entry_of (Play (Draw at)) order ∷ hs)
     unfolding draw_conditions hands_after decide call_takes all_of
@@ -233,8 +233,8 @@ module _ (o : Options) (opening : List ℕ) (hs : List HostEntry) (b : Bounded o
       was-uninsured =
           let agrees = (good.agrees.seats at.seat).guests at.position in
           ap₂ (λ (x y : Bool). cond (x && y) 1 0)
-          (ap (ltb 0) (sym agrees.stake-is) ∙ lt-ltb 0 _ a.staked)
-          (ap (λ (k : ℕ). eqb k 0) (sym agrees.insurance-is) ∙ eq-eqb _ 0 a.none_yet)
+          (ap (ltb 0) (sym agrees.stake_is) ∙ lt-ltb 0 _ a.staked)
+          (ap (λ (k : ℕ). eqb k 0) (sym agrees.insurance_is) ∙ eq-eqb _ 0 a.none_yet)
 
       after : (i q : ℕ) → uninsured (insures ∷ es) i q ≡ cond (eqb at.seat i && eqb at.position q) 0 (uninsured es i q)
       after i q = go (eqb at.seat i && eqb at.position q)
@@ -280,11 +280,11 @@ module _ (o : Options) (opening : List ℕ) (hs : List HostEntry) (b : Bounded o
       only-waits : seat_waits o (get_or cards.bank 0 0) only ≡ true
       only-waits =
           subst (λ (x : Options). seat_waits x (get_or (cards_of_history x opening es).bank 0 0) (hands_in x opening es at.seat) ≡ true) same
-          (ap₂ (λ (bank : List ℕ) (hs : List Played). seat_waits t.options (get_or bank 0 0) hs) (sym good.agrees.cards.bank) (sym (good.agrees.seats at.seat).hands-are) ∙ given-up.waits)
+          (ap₂ (λ (bank : List ℕ) (hs : List Played). seat_waits t.options (get_or bank 0 0) hs) (sym good.agrees.cards.bank) (sym (good.agrees.seats at.seat).hands_are) ∙ given-up.waits)
 
       only_one : length only ≡ 1
       only_one =
-          let hands_are : hands (seat_at t at.seat) ≡ only = subst (λ (x : Options). hands (seat_at t at.seat) ≡ hands_in x opening es at.seat) same (good.agrees.seats at.seat).hands-are in
+          let hands_are : hands (seat_at t at.seat) ≡ only = subst (λ (x : Options). hands (seat_at t at.seat) ≡ hands_in x opening es at.seat) same (good.agrees.seats at.seat).hands_are in
           omega (arith, not_split t at.seat good.shaped given-up.acting.nine given-up.early, ap length hands_are, place_inside o (get_or cards.bank 0 0) only only-waits)
 
       pub surrender-step : Bounded o opening (entry_of (Play (Surrender at)) order ∷ hs)
@@ -324,14 +324,14 @@ module _ (o : Options) (opening : List ℕ) (hs : List HostEntry) (b : Bounded o
       hands-dealt = sum_below-same (λ i. open_hands (hands_in o opening (deals ∷ es) i)) staked o.seats (λ i l. one-hand i)
 
       nine : o.seats ≤ 9
-      nine = subst (λ (x : Options). x.seats ≤ 9) same (sound_options t good.sound).seats-most
+      nine = subst (λ (x : Options). x.seats ≤ 9) same (sound_options t good.sound).seats_most
 
       -- nobody stakes before the seated guest
       unstaked : (i p : ℕ) → i < 9 → p < 3 → stake_in es i 0 ≡ 0 → stake_in es i p ≡ 0
       unstaked i p hi hp none =
           let a = (good.agrees.seats i).guests in
-          let seated : stake (seat_at t i) ≡ 0 = ap stake (sym (guest-seated (seat_at t i))) ∙ (a 0).stake-is ∙ none in
-          sym (a p).stake-is ∙ (good.sound.seats i hi).seated-first p hp seated
+          let seated : stake (seat_at t i) ≡ 0 = ap stake (sym (guest-seated (seat_at t i))) ∙ (a 0).stake_is ∙ none in
+          sym (a p).stake_is ∙ (good.sound.seats i hi).seated_first_lem p hp seated
 
       at-most-three : (i : ℕ) → i < o.seats → seat_uninsured es i ≤ 3 * staked i
       at-most-three i l = go (ltb 0 (stake_in es i 0)) refl

@@ -23,10 +23,10 @@ pub ends_past : (text : List ℕ) (i : ℕ) → length text ≤ i → line_end t
 unfolding first_place
 ends_past text i h = rw (drop_of_length-le text h) (omega arith)
 
-first-most : (f : ℕ → Bool) (xs : List ℕ) → first_place f xs ≤ length xs
+first_most : (f : ℕ → Bool) (xs : List ℕ) → first_place f xs ≤ length xs
 unfolding first_place
-first-most f [] = omega arith
-first-most f (x ∷ xs) = cond_most (f x) (omega arith) (omega (arith, first-most f xs))
+first_most f [] = omega arith
+first_most f (x ∷ xs) = cond_most (f x) (omega arith) (omega (arith, first_most f xs))
 
 pub line-within : (text : List ℕ) (i : ℕ) → i ≤ length text → line_end text i ≤ length text
-line-within text i h = omega (arith, first-most ends_line (drop i text), length-drop i text)
+line-within text i h = omega (arith, first_most ends_line (drop i text), length-drop i text)

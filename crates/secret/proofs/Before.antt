@@ -56,19 +56,19 @@ module _ (p q : ℕ) where
         heard n none zero = true≢false (sym none ∙ ap (λ (x : Bool). not (x && true)) (eq-eqb n 0 zero))
 
         deal : (lent : List ℕ) → Quiet t Deal lent → Follows (Before p q) t u Deal lent
-        deal lent none = follows (Before p q) t u Deal lent (deal_number t u order b.veiled b.whole b.other-whole) (λ zero. absurd (heard _ none zero)) (λ refused. b)
+        deal lent none = follows (Before p q) t u Deal lent (deal_number t u order b.veiled b.whole b.other_whole) (λ zero. absurd (heard _ none zero)) (λ refused. b)
 
         load : (lent : List ℕ) → Quiet t Load lent → Follows (Before p q) t u Load lent
-        load lent none = follows (Before p q) t u Load lent (load_number t u order b.veiled b.whole b.other-whole lent) (λ zero. absurd (heard _ none zero)) (λ refused. b)
+        load lent none = follows (Before p q) t u Load lent (load_number t u order b.veiled b.whole b.other_whole lent) (λ zero. absurd (heard _ none zero)) (λ refused. b)
 
         close : (lent : List ℕ) → Quiet t Close lent → Follows (Before p q) t u Close lent
         close lent none =
             let five = idle_close t b.whole b.undealt in
-            follows (Before p q) t u Close lent (idle_close u b.other-whole undealt-too ∙ sym five) (λ zero. absurd (omega (arith, number-first t Close lent, five, zero))) (λ refused. b)
+            follows (Before p q) t u Close lent (idle_close u b.other_whole undealt-too ∙ sym five) (λ zero. absurd (omega (arith, number-first t Close lent, five, zero))) (λ refused. b)
 
         plain : (c : Call) → is_plain c ≡ true → (lent : List ℕ) → Quiet t c lent → Follows (Before p q) t u c lent
         plain c plainly lent none =
-            plain_follows t u order b.veiled b.whole b.other-whole (Before p q) c lent plainly
+            plain_follows t u order b.veiled b.whole b.other_whole (Before p q) c lent plainly
             (λ zero dealt n least most. absurd (true≢false (sym dealt ∙ b.undealt)))
             (λ zero after whole other_whole.
             record {
@@ -80,10 +80,10 @@ module _ (p q : ℕ) where
             })
             (λ refused. b)
 
-  pub before_plays : (es : List Entry) (t u : Table) → Before p q t u → quiet t es ≡ true → Plays (Before p q) es t u
+  pub before-plays : (es : List Entry) (t u : Table) → Before p q t u → quiet t es ≡ true → Plays (Before p q) es t u
   unfolding quiet
-  before_plays [] t u b none = plays-none (Before p q) t u b
-  before_plays (e ∷ es) t u b none =
+  before-plays [] t u b none = plays-none (Before p q) t u b
+  before-plays (e ∷ es) t u b none =
       let (here, later) = (and-eq-true_iff (not (is_accepted t e && (is_load e || is_deal e))) (quiet (next t e.call e.order) es)).0 none in
       let f = before-step t u b e.call e.order here in
-      plays_more (Before p q) e es t u (record { answer = f.answer; after = before_plays es (next t e.call e.order) (next u e.call e.order) f.after later })
+      plays_more (Before p q) e es t u (record { answer = f.answer; after = before-plays es (next t e.call e.order) (next u e.call e.order) f.after later })

@@ -62,11 +62,11 @@ shows_self : (t : Table) → ShowsSame t t
 shows_self t = record { table = refl; turn = refl; seat = λ i q. refl; hand = λ i q p. refl }
 
 plays_self : (es : List Entry) (t : Table) → Plays ShowsSame es t t
-plays_self es t = record { answers-same = refl; ends = shows_self (run t es) }
+plays_self es t = record { answers_same = refl; ends = shows_self (run t es) }
 
 module _ (q : ℕ) where
   behind-shows : (t u : Table) → Behind q t u → ShowsSame t u
-  behind-shows t u b = hidden_unshown t u sight (b.whole.sound ∙ sym b.other-whole.sound)
+  behind-shows t u b = hidden_unshown t u sight (b.whole.sound ∙ sym b.other_whole.sound)
     where
       v : Veiled b.order t u
       v = b.veiled
@@ -101,12 +101,12 @@ module _ (q : ℕ) where
 
     behind-deal : Here Deal
     behind-deal lent goes none =
-        follows (Plays ShowsSame es) t u Deal lent (deal_number t u b.order b.veiled b.whole b.other-whole)
+        follows (Plays ShowsSame es) t u Deal lent (deal_number t u b.order b.veiled b.whole b.other_whole)
         (λ zero. absurd (no_deal t b.box b.begun (sym (number-first t Deal lent) ∙ zero))) (refused-plays Deal lent none)
 
     behind-load : Here Load
     behind-load lent goes none =
-        follows (Plays ShowsSame es) t u Load lent (load_number t u b.order b.veiled b.whole b.other-whole lent)
+        follows (Plays ShowsSame es) t u Load lent (load_number t u b.order b.veiled b.whole b.other_whole lent)
         (λ zero.
         let equal = loads_equal t u b.order b.veiled (load-accepted t lent (sym (number-first t Load lent) ∙ zero)).1 lent in
         (rw equal (plays_self es (load_effect t lent)), refl))
@@ -114,7 +114,7 @@ module _ (q : ℕ) where
 
     behind-plain : (c : Call) → is_plain c ≡ true → Here c
     behind-plain c plain lent goes none =
-        plain_follows t u b.order b.veiled b.whole b.other-whole (Plays ShowsSame es) c lent plain
+        plain_follows t u b.order b.veiled b.whole b.other_whole (Plays ShowsSame es) c lent plain
         (λ zero dealt n least most. b.ahead n least (λ e. omega (arith, undrawn-most q (effect t c lent) es (later zero), e)))
         (λ zero after whole other_whole. rest (effect t c lent) (effect u c lent) (behind after whole other_whole) (later zero)) (refused-plays c lent none)
       where

@@ -21,7 +21,7 @@ use Rattle.secret.proofs.Steps.{number-first, Follows, follows}
 use Rattle.secret.proofs.Alike.{deal_number}
 use Rattle.secret.proofs.Deal.{deal-drawn, deal-order, deal_last, deal_veiled}
 use Rattle.secret.proofs.Plays.{Plays, plays_more, plays-both}
-use Rattle.secret.proofs.Before.{Before, before_plays}
+use Rattle.secret.proofs.Before.{Before, before-plays}
 use Rattle.secret.proofs.Behind.{Behind, undrawn-most, behind-plays}
 
 module _ (p q : ℕ) where
@@ -32,7 +32,7 @@ module _ (p q : ℕ) where
       order = exchanged p q t.shoe.order
 
       same_number : first (deal_conditions u) ≡ first (deal_conditions t)
-      same_number = deal_number t u order b.veiled b.whole b.other-whole
+      same_number = deal_number t u order b.veiled b.whole b.other_whole
 
       last : t.shoe.drawn + deal_takes t ≡ suc p
       last = deal_last t lent p zero hidden
@@ -52,7 +52,7 @@ module _ (p q : ℕ) where
             order = order;
             veiled = veiled;
             whole = keeps t Deal lent b.whole zero;
-            other_whole = keeps u Deal lent b.other-whole (number-first u Deal lent ∙ same_number ∙ sym (number-first t Deal lent) ∙ zero);
+            other_whole = keeps u Deal lent b.other_whole (number-first u Deal lent ∙ same_number ∙ sym (number-first t Deal lent) ∙ zero);
             box = rw (step_options t Deal lent) b.box;
             begun = omega (arith, deal-drawn t, last);
             ahead = λ n least other. rw (deal-order t) (exchanged_other p q t.shoe.order n (λ e. omega (arith, deal-drawn t, last, least, e)) other);
@@ -60,11 +60,11 @@ module _ (p q : ℕ) where
 
   -- the hidden card lies before place q
   pub hidden_before : (t : Table) (before : List Entry) (lent : List ℕ) (behind : List Entry) → Hides p q t before lent behind → p < q
-  hidden_before t before lent behind h = omega (arith, undrawn-most q (next (run t before) Deal lent) behind h.not-drawn, h.hidden)
+  hidden_before t before lent behind h = omega (arith, undrawn-most q (next (run t before) Deal lent) behind h.not_drawn, h.hidden)
 
   pub hides_plays : (t u : Table) (before : List Entry) (lent : List ℕ) (behind : List Entry) → Before p q t u → Hides p q t before lent behind → Plays ShowsSame (up_to_close before lent behind) t u
   hides_plays t u before lent behind b h =
-      plays-both ShowsSame (Before p q) before (deal lent ∷ behind) t u (before_plays p q before t u b h.no_other) (λ at.
+      plays-both ShowsSame (Before p q) before (deal lent ∷ behind) t u (before-plays p q before t u b h.no_other) (λ at.
       let f = deal-follows (run t before) (run u before) lent at h.dealt h.hidden (hidden_before t before lent behind h) in
       plays_more ShowsSame (deal lent) behind (run t before) (run u before)
-      (record { answer = f.answer; after = behind-plays q behind (next (run t before) Deal lent) (next (run u before) Deal lent) f.after h.not-drawn h.no-close }))
+      (record { answer = f.answer; after = behind-plays q behind (next (run t before) Deal lent) (next (run u before) Deal lent) f.after h.not_drawn h.no_close }))

@@ -70,7 +70,7 @@ module _ (p q : ℕ) (less : p < q) (small : q < 52) where
 
   module _ (t : Table) (order : List ℕ) (whole : Whole t) (loads : number t Load order ≡ 0) where
     some-decks : 1 ≤ t.options.decks
-    some-decks = (sound_options t (unbroken t whole.sound)).decks-least
+    some-decks = (sound_options t (unbroken t whole.sound)).decks_least
 
     load-tests : (valid_order t.options.decks order ≡ true) × (is_dealt t ≡ false)
     load-tests = load-accepted t order (sym (number-first t Load order) ∙ loads)
@@ -81,9 +81,9 @@ module _ (p q : ℕ) (less : p < q) (small : q < 52) where
         number-first t Load (exchanged p q order)
         ∙ simp (whole.sound, still-valid t.options.decks order some-decks load-tests.0, load-tests.1)
 
-    pub load_before : is_box t.options ≡ true → Before p q (next t Load order) (next t Load (exchanged p q order))
+    pub load-before : is_box t.options ≡ true → Before p q (next t Load order) (next t Load (exchanged p q order))
     unfolding load_effect
-    load_before box =
+    load-before box =
         let inside : q < length order = within t.options.decks order some-decks load-tests.0 in
         rw (accepted-next t Load order loads, accepted-next t Load (exchanged p q order) other_loads)
         (record {
@@ -102,7 +102,7 @@ module _ (p q : ℕ) (less : p < q) (small : q < 52) where
         (not-false _ none.0, not-false _ none.1.0)
 
     decks-open : 1 ≤ o.decks
-    decks-open = (in_range_facts o open_tests.0).decks-least
+    decks-open = (in_range_facts o open_tests.0).decks_least
 
     pub other_opens : open_number o (exchanged p q order) ≡ 0
     unfolding open_number open_conditions first

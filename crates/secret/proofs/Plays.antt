@@ -26,22 +26,22 @@ answers-taken t (e ∷ xs) ys = ap (λ (later : List Answer). (step t e.call e.o
 
 -- The answers are the same, and the two tables at the end are as `Q` says.
 pub record Plays (Q : Table → Table → Type 0) (es : List Entry) (t u : Table) : Type 0 where
-  pub answers-same : answers u es ≡ answers t es
+  pub answers_same : answers u es ≡ answers t es
   pub ends : Q (run t es) (run u es)
 
 module _ (Q : Table → Table → Type 0) where
   pub plays-none : (t u : Table) → Q t u → Plays Q [] t u
   unfolding run answers
-  plays-none t u q = record { answers-same = refl; ends = q }
+  plays-none t u q = record { answers_same = refl; ends = q }
 
   pub plays_more : (e : Entry) (es : List Entry) (t u : Table) → Follows (Plays Q es) t u e.call e.order → Plays Q (e ∷ es) t u
   unfolding run answers
-  plays_more e es t u f = record { answers-same = ap₂ (λ (a : Answer) (later : List Answer). a ∷ later) f.answer f.after.answers-same; ends = f.after.ends }
+  plays_more e es t u f = record { answers_same = ap₂ (λ (a : Answer) (later : List Answer). a ∷ later) f.answer f.after.answers_same; ends = f.after.ends }
 
   pub plays-both : (P : Table → Table → Type 0) (xs ys : List Entry) (t u : Table) → Plays P xs t u → (P (run t xs) (run u xs) → Plays Q ys (run t xs) (run u xs)) → Plays Q (xs ++ ys) t u
   plays-both P xs ys t u front back =
       let later = back front.ends in
       record {
-        answers-same = answers-append u xs ys ∙ ap₂ ◌++◌ front.answers-same later.answers-same ∙ sym (answers-append t xs ys);
+        answers_same = answers-append u xs ys ∙ ap₂ ◌++◌ front.answers_same later.answers_same ∙ sym (answers-append t xs ys);
         ends = rw (run-append t xs ys, run-append u xs ys) later.ends;
       }

@@ -22,7 +22,7 @@ use Rattle.secret.specs.Secret.{exchanged, load, up_to_close, OneLoad, LoadSecre
 use Rattle.secret.proofs.Kept.{run-whole, opens_whole}
 use Rattle.secret.proofs.Plays.{run-append, answers-append, answers-taken, Plays}
 use Rattle.secret.proofs.Dealt.{hidden_before, hides_plays}
-use Rattle.secret.proofs.Loaded.{opening-accepted, other_loads, load_before, other_opens, open_before}
+use Rattle.secret.proofs.Loaded.{opening-accepted, other_loads, load-before, other_opens, open_before}
 
 -- accepted loads answer the same
 loads-same : (t : Table) (order other : List ℕ) → number t Load order ≡ 0 → number t Load other ≡ 0 → (step t Load order).answer ≡ (step t Load other).answer
@@ -62,12 +62,12 @@ module _ (o : Options) (before : List Entry) (lent : List ℕ) (behind : List En
         plays : Plays ShowsSame (up_to_close before lent behind) (next t Load order) (next t Load other)
         plays =
             hides_plays p q (next t Load order) (next t Load other) before lent behind
-            (load_before p q less one.hides.place t order whole one.loads box) one.hides
+            (load-before p q less one.hides.place t order whole one.loads box) one.hides
 
         same : answers t (from order) ≡ answers t (from other)
         same =
             ap₂ (λ (a : Answer) (later : List Answer). a ∷ later) (loads-same t order other one.loads (other_loads p q less one.hides.place t order whole one.loads))
-            (sym plays.answers-same)
+            (sym plays.answers_same)
 
         all : answers start (earlier ++ from order) ≡ answers start (earlier ++ from other)
         all = answers-append start earlier (from order) ∙ ap (λ (later : List Answer). answers start earlier ++ later) same ∙ sym (answers-append start earlier (from other))
@@ -88,6 +88,6 @@ module _ (o : Options) (before : List Entry) (lent : List ℕ) (behind : List En
       let calls = up_to_close before lent behind in
       record {
         same-opening = other-opened ∙ sym at.opens;
-        same-answers = λ rest. answers-taken (opened o order) calls rest ∙ sym plays.answers-same ∙ sym (answers-taken (opened o (exchanged p q order)) calls rest);
+        same-answers = λ rest. answers-taken (opened o order) calls rest ∙ sym plays.answers_same ∙ sym (answers-taken (opened o (exchanged p q order)) calls rest);
         same-shown = plays.ends;
       }

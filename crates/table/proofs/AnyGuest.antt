@@ -18,8 +18,8 @@ any_guest_lem t shaped P i p here none = go (dec_le 9 i) (dec_le 3 p)
   where
     go : Dec (9 ≤ i) → Dec (3 ≤ p) → P (guest_of t i p)
     go (yes h) l =
-        let missing : seat_at t i ≡ missing_seat = get_or-eq_default t.seats missing_seat {n = i} (omega (arith, shaped.nine-seats)) in
+        let missing : seat_at t i ≡ missing_seat = get_or-eq_default t.seats missing_seat {n = i} (omega (arith, shaped.nine_seats_lem)) in
         none (guest_of t i p) (no_money (guest_of t i p) (ap (λ (s : Seat). (guest_at s p).money) missing ∙ guest_missing p)).1
     go (no h) (yes l) =
-        none (guest_of t i p) (no_money (guest_of t i p) (guest_beyond (seat_at t i) p (omega (arith, (shaped.seats i (omega arith)).two-others)))).1
+        none (guest_of t i p) (no_money (guest_of t i p) (guest_beyond (seat_at t i) p (omega (arith, (shaped.seats i (omega arith)).two_others)))).1
     go (no h) (no l) = here (omega arith) (omega arith)

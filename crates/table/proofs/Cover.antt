@@ -20,7 +20,7 @@ use Rattle.table.proofs.SeatHands.{guest-prizes}
 module _ (t : Table) (full : length t.seats ≡ 9) (sound : Sound t) where
   -- no seat has more hands than the option gives, so each guest's prizes are far below its cover
   few : (i : ℕ) → i < 9 → length (hands (seat_at t i)) ≤ 4
-  few i h = few_hands t.options (is_dealt t) (up t) i (seat_at t i) (sound_options t sound).hands-most (sound.seats i h)
+  few i h = few_hands t.options (is_dealt t) (up t) i (seat_at t i) (sound_options t sound).hands_most (sound.seats i h)
 
   won : (i p : ℕ) → i < 9 → prizes t.options (guest_of t i p) + most_prize (stake (guest_of t i p)) ≤ seat_cover (guest_of t i p)
   won i p h =

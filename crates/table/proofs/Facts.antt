@@ -28,7 +28,7 @@ use Rattle.rules.specs.SeatHand.{played_of}
 use Rattle.rules.proofs.seat_hand.Places.{many_hands}
 use Rattle.payment.specs.Wager.{wager}
 use Rattle.payment.specs.Prize.{prize}
-use Rattle.payment.proofs.Bounds.{wager_bounds, prize-most}
+use Rattle.payment.proofs.Bounds.{wager_bounds, prize_most}
 use Rattle.payment.specs.Bets.{all_sides}
 use Rattle.table.specs.declared.Money.{Money}
 use Rattle.table.specs.declared.Seat.{Seat}
@@ -62,7 +62,7 @@ hand_facts o up many h e =
 
 facts_hand : (o : Options) (up many : ℕ) (h : SeatHand) → SoundHand o up many h → sound_hand o up many h ≡ true
 unfolding sound_hand
-facts_hand o up many h f = simp (le-leb _ _ f.two-cards, le-leb _ _ f.twenty-cards, f.played, f.origin, f.ended)
+facts_hand o up many h f = simp (le-leb _ _ f.two_cards_lem, le-leb _ _ f.twenty_cards, f.played, f.origin, f.ended)
 
 -- A guest without money, and a seat beyond the option.
 pub nothing_facts : (s : Seat) → is_nobody s.money ≡ true → (purse s ≡ 0) × NoBets s
@@ -87,8 +87,8 @@ number_facts o i s e beyond =
 
 nothing_test : (s : Seat) → HoldsNothing s → is_nobody s.money && eqb s.hands.many 0 ≡ true
 nothing_test s f =
-    let none = f.no-bets in
-    simp (f.no-purse, none.no-stake, none.no-insurance, below_all (λ k. eqb (get_or (sides s) k 0) 0) 4 (λ k h. eq-eqb _ _ (none.no_sides k h)), f.no-hands)
+    let none = f.no_bets in
+    simp (f.no_purse, none.no_stake_lem, none.no_insurance, below_all (λ k. eqb (get_or (sides s) k 0) 0) 4 (λ k h. eq-eqb _ _ (none.no_sides k h)), f.no_hands)
 
 facts_number : (o : Options) (i : ℕ) (s : Seat) → (o.seats ≤ i → HoldsNothing s) → sound_number o i s ≡ true
 unfolding sound_number
@@ -100,10 +100,10 @@ unfolding sound_insurance
 insurance_facts o in_round up s e some =
     let tests = in_round ∷ is_ace up ∷ is_staked s ∷ insurance_permitted o (stake s) (insurance s) ∷ [] in
     let test = and_at tests (test_some (insurance s) _ e some) in
-    record { in_round_lem = test 0; ace-up = test 1; staked = ltb-true _ _ (test 2); permitted = test 3 }
+    record { in_round_lem = test 0; ace_up = test 1; staked = ltb-true _ _ (test 2); permitted = test 3 }
 
 insured_test : (o : Options) (in_round : Bool) (up : ℕ) (s : Seat) → Insured o in_round up s → in_round && is_ace up && is_staked s && insurance_permitted o (stake s) (insurance s) ≡ true
-insured_test o in_round up s f = simp (f.in-round, f.ace-up, lt-ltb _ _ f.staked, f.permitted)
+insured_test o in_round up s f = simp (f.in_round_lem, f.ace_up, lt-ltb _ _ f.staked, f.permitted)
 
 facts_insurance : (o : Options) (in_round : Bool) (up : ℕ) (s : Seat) → (0 < insurance s → Insured o in_round up s) → sound_insurance o in_round up s ≡ true
 unfolding sound_insurance
@@ -165,7 +165,7 @@ facts_hands o in_round up s waits plays = go (dec_le s.hands.many 0)
     go (yes h) = let none : s.hands.many ≡ 0 = omega arith in simp (none, idle in_round refl none)
     go (no h) =
         let f = plays (omega arith) in
-        simp (f.in-round, lt-ltb _ _ f.staked, le-leb _ _ f.within, lt-ltb 0 s.hands.many (omega arith), each_test o up s f.each, or-true)
+        simp (f.in_round_lem, lt-ltb _ _ f.staked, le-leb _ _ f.within, lt-ltb 0 s.hands.many (omega arith), each_test o up s f.each, or-true)
 
 -- A guest.
 guest_facts : (o : Options) (in_round : Bool) (up i : ℕ) (s : Seat) → sound_guest o in_round up i s ≡ true → SoundGuest o in_round up i s
@@ -175,7 +175,7 @@ guest_facts o in_round up i s e =
     let test = and_at tests e in
     record {
       beyond = number_facts o i s (test 0);
-      stake-fits = test_some (stake s) _ (test 1);
+      stake_fits = test_some (stake s) _ (test 1);
       insured = insurance_facts o in_round up s (test 2);
       sides_fit = sides_facts s (test 3);
       prizes_back = leb-true _ _ (test 4);
@@ -186,10 +186,10 @@ unfolding sound_guest sound_stake sound_prizes
 facts_guest o in_round up i s f =
     simp (
       facts_number o i s f.beyond,
-      some_test (stake s) _ f.stake-fits,
+      some_test (stake s) _ f.stake_fits,
       facts_insurance o in_round up s f.insured,
-      facts_sides s f.sides-fit,
-      le-leb _ _ f.prizes-back,
+      facts_sides s f.sides_fit,
+      le-leb _ _ f.prizes_back,
     )
 
 -- The seated guest stakes first.
@@ -222,7 +222,7 @@ unfolding sound_seat
 facts_seat o in_round up i s f =
     simp (
       guest-each (sound_guest o in_round up i) s (λ p h. facts_guest o in_round up i (guest_at s p) (f.guests p h)),
-      facts_seated s f.seated-first,
+      facts_seated s f.seated_first_lem,
       facts_hands o in_round up s f.waiting f.playing,
     )
 
@@ -267,7 +267,7 @@ sound_facts t e =
     record {
       options = test 0;
       begun = (begun_facts t.shoe (test 1)).0;
-      begun-drawn = (begun_facts t.shoe (test 1)).1;
+      begun_drawn = (begun_facts t.shoe (test 1)).1;
       valid = shoe 0;
       drawn = leb-true _ _ (shoe 1);
       discarded = leb-true _ _ (shoe 2);
@@ -287,11 +287,11 @@ unfolding sound sound_shoe sound_discards sound_faces sound_money
 facts_sound t twenty f =
     simp (
       f.options,
-      facts_begun t.shoe f.begun f.begun-drawn,
+      facts_begun t.shoe f.begun f.begun_drawn,
       f.valid,
       le-leb _ _ f.drawn,
       le-leb _ _ f.discarded,
-      le-leb _ _ f.discarded-drawn,
+      le-leb _ _ f.discarded_drawn,
       below_all (λ k. eqb (get_or t.shoe.discards k 0) (get_or t.shoe.order k 0)) t.shoe.discarded (λ k h. eq-eqb _ _ (f.discards k h)),
       below_all (λ b. eqb (count_of b (out_cards t)) (count_of b (table_drawn t))) 256 (λ b h. eq-eqb _ _ (f.faces b h)),
       eq-eqb _ _ f.number,
@@ -310,15 +310,15 @@ pub unbroken : (t : Table) → broken t ≡ false → Sound t
 unbroken t e = sound_facts t (not-false (sound t) e)
 
 pub seat_of-nine : (t : Table) (j : ℕ) → broken t ≡ false → leb t.options.seats j ≡ false → j < 9
-seat_of-nine t j e within = omega (arith, (sound_options t (unbroken t e)).seats-most, leb-false t.options.seats j within)
+seat_of-nine t j e within = omega (arith, (sound_options t (unbroken t e)).seats_most, leb-false t.options.seats j within)
 
 pub decks_416 : (t : Table) → Sound t → 52 * t.options.decks ≤ 416
-decks_416 t f = omega (arith, (sound_options t f).decks-most)
+decks_416 t f = omega (arith, (sound_options t f).decks_most)
 
 -- an insurance is at most the stake
-pub insurance-most : (o : Options) (S I : ℕ) → insurance_permitted o S I ≡ true → I ≤ S
+pub insurance_most : (o : Options) (S I : ℕ) → insurance_permitted o S I ≡ true → I ≤ S
 unfolding insurance_permitted
-insurance-most o S I e = go (eqb o.insurance 1) e
+insurance_most o S I e = go (eqb o.insurance 1) e
   where
     go : (half : Bool) → cond half (eqb (2 * I) S) (leb S (2 * I) && leb I S) ≡ true → I ≤ S
     go true e = omega (arith, eqb-true (2 * I) S e)
@@ -337,7 +337,7 @@ dealt-drawn t f round =
 -- a shoe of which k cards more are drawn: play had begun where that is any
 pub still_begun : (t : Table) (sh : Shoe) (k : ℕ) → Sound t → sh.begun ≡ t.shoe.begun → sh.drawn ≡ t.shoe.drawn + k → (0 < k → 0 < t.shoe.drawn)
     → (sh.begun ≤ 1) × (0 < sh.drawn → sh.begun ≡ 1)
-still_begun t sh k f same more before = (omega (arith, f.begun), λ some. same ∙ f.begun-drawn (go (dec_le k 0) some))
+still_begun t sh k f same more before = (omega (arith, f.begun), λ some. same ∙ f.begun_drawn (go (dec_le k 0) some))
   where
     go : Dec (k ≤ 0) → 0 < sh.drawn → 0 < t.shoe.drawn
     go (yes none) some = omega arith
@@ -363,7 +363,7 @@ no_sides o in_round up i s f none k h = go (dec_le (get_or (sides s) k 0) 0)
   where
     go : Dec (get_or (sides s) k 0 ≤ 0) → get_or (sides s) k 0 ≡ 0
     go (yes l) = omega arith
-    go (no l) = absurd (omega (arith, (f.sides-fit k h (omega arith)).0))
+    go (no l) = absurd (omega (arith, (f.sides_fit k h (omega arith)).0))
 
 -- a seat without hands: what it laid is its stake and its side stakes, and it has no prize
 pub no_hands : (s : Seat) → s.hands.many ≡ 0 → hands s ≡ []
@@ -388,10 +388,10 @@ unfolding laid prizes
 sound-beside o in_round up i s others first f =
     record {
       beyond = λ h. nothing (f.beyond h);
-      stake-fits = f.stake-fits;
+      stake_fits = f.stake_fits;
       insured = λ some. insured (f.insured some);
-      sides_fit = f.sides-fit;
-      prizes_back = f.prizes-back;
+      sides_fit = f.sides_fit;
+      prizes_back = f.prizes_back;
     }
   where
     r : Seat
@@ -399,11 +399,11 @@ sound-beside o in_round up i s others first f =
 
     nothing : HoldsNothing s → HoldsNothing r
     nothing n =
-        let none = n.no-bets in
-        record { no_purse = n.no-purse; no_bets = record { no_stake_lem = none.no-stake; no_insurance = none.no-insurance; no_sides = none.no_sides }; no_hands = n.no-hands }
+        let none = n.no_bets in
+        record { no_purse = n.no_purse; no_bets = record { no_stake_lem = none.no_stake_lem; no_insurance = none.no_insurance; no_sides = none.no_sides }; no_hands = n.no_hands }
 
     insured : Insured o in_round up s → Insured o in_round up r
-    insured n = record { in_round_lem = n.in-round; ace-up = n.ace-up; staked = n.staked; permitted = n.permitted }
+    insured n = record { in_round_lem = n.in_round_lem; ace_up = n.ace_up; staked = n.staked; permitted = n.permitted }
 
 pub sound-alike : (o : Options) (in_round : Bool) (up i : ℕ) (r s : Seat) → r.money ≡ s.money → r.hands ≡ s.hands → SoundGuest o in_round up i s → SoundGuest o in_round up i r
 sound-alike o in_round up i r s money hands f =
@@ -420,7 +420,7 @@ no_money s none = (
 pub unstaked_prizes : (o : Options) (s : Seat) → stake s ≡ 0 → prizes o s ≡ 0
 unfolding prizes
 unstaked_prizes o s none =
-    sum-none (prize o (stake s)) (hands s) (played_of missing_place) (λ k h. omega (arith, prize-most o (stake s) (get_or (hands s) k (played_of missing_place))))
+    sum-none (prize o (stake s)) (hands s) (played_of missing_place) (λ k h. omega (arith, prize_most o (stake s) (get_or (hands s) k (played_of missing_place))))
 
 pub nothing-laid : (s : Seat) → NoBets s → laid s ≡ 0
 unfolding laid
@@ -428,8 +428,8 @@ nothing-laid s n =
     omega (arith, main (eqb (length (hands s)) 0), n.no_sides 0 (omega arith), n.no_sides 1 (omega arith), n.no_sides 2 (omega arith), n.no_sides 3 (omega arith))
   where
     wagers : sum_of (wager (stake s)) (hands s) ≡ 0
-    wagers = sum-none (wager (stake s)) (hands s) (played_of missing_place) (λ k h. omega (arith, n.no-stake, (wager_bounds (stake s) (get_or (hands s) k (played_of missing_place))).1))
+    wagers = sum-none (wager (stake s)) (hands s) (played_of missing_place) (λ k h. omega (arith, n.no_stake_lem, (wager_bounds (stake s) (get_or (hands s) k (played_of missing_place))).1))
 
     main : (b : Bool) → cond b (stake s) (sum_of (wager (stake s)) (hands s) + insurance s) ≡ 0
-    main true = n.no-stake
-    main false = omega (arith, wagers, n.no-insurance)
+    main true = n.no_stake_lem
+    main false = omega (arith, wagers, n.no_insurance)

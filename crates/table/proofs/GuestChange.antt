@@ -66,7 +66,7 @@ module _ (o : Options) (in_round : Bool) (up i : ℕ) (s : Seat) (p : ℕ) (m : 
       first q h none (yes same) (yes seated) = omega (arith, ap (λ (q : ℕ). stake (guest_at (with_guest s p m) q)) same, stake-here, seat-stake.0 seated)
       first q h none (yes same) (no beside) =
           omega (arith, ap (λ (q : ℕ). stake (guest_at (with_guest s p m) q)) same, stake-here, seated_stakes beside (omega (arith, never_less)))
-      first q h none (no other) seated = omega (arith, stake-other q other, was.seated-first q h (omega (arith, never_less)))
+      first q h none (no other) seated = omega (arith, stake-other q other, was.seated_first_lem q h (omega (arith, never_less)))
 
       waits : s.hands.many ≡ 0 → in_round ≡ true → Dec (p ≡ 0) → stake (with_guest s p m) ≡ 0
       waits none dealt (yes seated) =
@@ -76,7 +76,7 @@ module _ (o : Options) (in_round : Bool) (up i : ℕ) (s : Seat) (p : ℕ) (m : 
       plays : Playing o in_round up s → Playing o in_round up (with_guest s p m)
       plays f =
           rw (put-hands s p m)
-          (record { in_round_lem = f.in-round; staked = omega (arith, never_less, f.staked); within = f.within; each = f.each })
+          (record { in_round_lem = f.in_round_lem; staked = omega (arith, never_less, f.staked); within = f.within; each = f.each })
 
 -- What such a call must give; `came` is money that comes onto the table by it, `went` money that leaves it.
 pub record GuestChange (t : Table) (j p : ℕ) (m : Money) (came went : ℕ) : Type 0 where
@@ -85,10 +85,10 @@ pub record GuestChange (t : Table) (j p : ℕ) (m : Money) (came went : ℕ) : T
   pub as_many : length m.sides ≡ 4
   pub sound_guest_lem : SoundGuest t.options (is_dealt t) (up t) j (with_money (seat_at t j) m)
   pub grows : stake (guest_of t j p) ≤ m.stake
-  pub same-stake : is_dealt t ≡ true → m.stake ≡ stake (guest_of t j p)
+  pub same_stake : is_dealt t ≡ true → m.stake ≡ stake (guest_of t j p)
   pub seated_stakes : (p ≡ 0 → ⊥) → stake (seat_at t j) ≡ 0 → m.stake ≡ 0
-  pub same-cover : is_dealt t ≡ true → seat_cover (with_money (seat_at t j) m) ≡ seat_cover (guest_of t j p)
-  pub same-prizes : is_dealt t ≡ true → prizes t.options (with_money (seat_at t j) m) ≡ prizes t.options (guest_of t j p)
+  pub same_cover : is_dealt t ≡ true → seat_cover (with_money (seat_at t j) m) ≡ seat_cover (guest_of t j p)
+  pub same_prizes : is_dealt t ≡ true → prizes t.options (with_money (seat_at t j) m) ≡ prizes t.options (guest_of t j p)
   pub paid : laid (with_money (seat_at t j) m) + m.purse + went ≡ laid (guest_of t j p) + purse (guest_of t j p) + came
   pub in_limit : all_money t + came ≤ most_money + went
 
@@ -99,35 +99,35 @@ guest_change t j p m came went shaped sound ch =
     record {
       within = ch.within;
       shaped_seat = shaped_put s p m was ch.position ch.as_many;
-      sound_seat_lem = put-sound t.options (is_dealt t) (up t) j s p m two ch.position (sound.seats j nine) ch.sound-guest ch.grows ch.same-stake ch.seated-stakes;
-      same-staked = λ dealt. ap (ltb 0) (staked dealt (ℕ_discrete p 0));
-      same-cover = λ dealt. omega (arith, over_put seat_cover (λ x others. refl) s p m two ch.position, ch.same-cover dealt);
+      sound_seat_lem = put-sound t.options (is_dealt t) (up t) j s p m two ch.position (sound.seats j nine) ch.sound_guest_lem ch.grows ch.same_stake ch.seated_stakes;
+      same_staked = λ dealt. ap (ltb 0) (staked dealt (ℕ_discrete p 0));
+      same_cover = λ dealt. omega (arith, over_put seat_cover (λ x others. refl) s p m two ch.position, ch.same_cover dealt);
       paid = omega (arith, over_put laid of_laid s p m two ch.position, over_put purse (λ x others. refl) s p m two ch.position, ch.paid);
-      in_limit = ch.in-limit;
-      prizes_paid = λ dealt. omega (arith, over_put (prizes t.options) (of_prizes t.options) s p m two ch.position, ch.same-prizes dealt);
-      same-order = refl;
+      in_limit = ch.in_limit;
+      prizes_paid = λ dealt. omega (arith, over_put (prizes t.options) (of_prizes t.options) s p m two ch.position, ch.same_prizes dealt);
+      same_order = refl;
       same_discards = refl;
       same_discarded = refl;
       more_drawn = omega arith;
-      same-begun = refl;
+      same_begun = refl;
       drawn_before = λ some. absurd (omega arith);
       enough = omega (arith, sound.drawn);
-      cards-moved = λ w. rw (put-hands s p m) (omega arith);
+      cards_moved = λ w. rw (put-hands s p m) (omega arith);
     }
   where
     s : Seat
     s = seat_at t j
 
     nine : j < 9
-    nine = omega (arith, (in_range_facts t.options sound.options).seats-most, ch.within)
+    nine = omega (arith, (in_range_facts t.options sound.options).seats_most, ch.within)
 
     was : ShapedSeat s
     was = shaped.seats j nine
 
     two : length s.others ≡ 2
-    two = was.two-others
+    two = was.two_others
 
     staked : is_dealt t ≡ true → Dec (p ≡ 0) → stake (with_guest s p m) ≡ stake s
     staked dealt (yes seated) =
-        omega (arith, (seat-stake t.options (is_dealt t) (up t) j s p m two ch.position).0 seated, ch.same-stake dealt, ap (λ (q : ℕ). stake (guest_at s q)) seated, ap stake (guest-seated s))
+        omega (arith, (seat-stake t.options (is_dealt t) (up t) j s p m two ch.position).0 seated, ch.same_stake dealt, ap (λ (q : ℕ). stake (guest_at s q)) seated, ap stake (guest-seated s))
     staked dealt (no beside) = (seat-stake t.options (is_dealt t) (up t) j s p m two ch.position).1 beside

@@ -185,13 +185,13 @@ guest-none f s fail = simp (fail 0 (omega arith), fail 1 (omega arith), fail 2 (
 pub shaped_put : (s : Seat) (p : ℕ) (m : Money) → ShapedSeat s → p < 3 → length m.sides ≡ 4 → ShapedSeat (with_guest s p m)
 shaped_put s p m shaped h four =
     record {
-      four-places = ap (λ (x : SeatHands). length x.places) (put-hands s p m) ∙ shaped.four-places;
-      two-others = put-others s p m ∙ shaped.two-others;
-      four-sides = λ q l. go q l (ℕ_discrete q p);
-      three_first = ap length (put_first s p m) ∙ shaped.three-first;
-      twenty_cards = rw (put-hands s p m) shaped.twenty-cards;
+      four_places = ap (λ (x : SeatHands). length x.places) (put-hands s p m) ∙ shaped.four_places;
+      two_others = put-others s p m ∙ shaped.two_others;
+      four_sides = λ q l. go q l (ℕ_discrete q p);
+      three_first = ap length (put_first s p m) ∙ shaped.three_first;
+      twenty_cards = rw (put-hands s p m) shaped.twenty_cards;
     }
   where
     go : (q : ℕ) → q < 3 → Dec (q ≡ p) → length (guest_at (with_guest s p m) q).money.sides ≡ 4
-    go q l (yes same) = rw (same, put_here s p m shaped.two-others h) four
-    go q l (no other) = rw (put_other s p q m other) (shaped.four-sides q l)
+    go q l (yes same) = rw (same, put_here s p m shaped.two_others h) four
+    go q l (no other) = rw (put_other s p q m other) (shaped.four_sides q l)

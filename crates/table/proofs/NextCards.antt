@@ -18,7 +18,7 @@ card_at_lem t i h = get_or-take (52 * t.options.decks) t.shoe.order i 0 h
 
 module _ (t : Table) (shaped : Shaped t) (sound : Sound t) where
   shoe-length : length (table_shoe t) + t.shoe.drawn ≡ 52 * t.options.decks
-  shoe-length = simp (length-drop, length-take, shaped.order) (omega (arith, sound.drawn, (in_range_facts t.options sound.options).decks-most))
+  shoe-length = simp (length-drop, length-take, shaped.order) (omega (arith, sound.drawn, (in_range_facts t.options sound.options).decks_most))
 
   next-at : (n : ℕ) → t.shoe.drawn + n < 52 * t.options.decks → get_or (table_shoe t) n 0 ≡ get_or t.shoe.order (t.shoe.drawn + n) 0
   next-at n h = get_or-drop t.shoe.drawn (table_order t) n 0 ∙ card_at_lem t (t.shoe.drawn + n) h

@@ -45,9 +45,9 @@ round_ended t tray purse-of shoe = make_table t.options tray (map (cleared purse
 pub record RoundEnd (t : Table) (tray : ℕ) (purse-of : Seat → ℕ) (shoe : Shoe) (k : ℕ) : Type 0 where
   pub paid : tray + sum_of (over_guests purse-of) t.seats ≡ all_money t
   pub nothing_stays : (s : Seat) → purse s ≡ 0 → NoBets s → purse-of s ≡ 0
-  pub same-order : shoe.order ≡ t.shoe.order
+  pub same_order : shoe.order ≡ t.shoe.order
   pub more_drawn : shoe.drawn ≡ t.shoe.drawn + k
-  pub same-begun : shoe.begun ≡ t.shoe.begun
+  pub same_begun : shoe.begun ≡ t.shoe.begun
   pub drawn_before : 0 < k → 0 < t.shoe.drawn
   pub enough : t.shoe.drawn + k ≤ 52 * t.options.decks
   pub all_discards : shoe.discards ≡ sets t.shoe.discards 0 (take shoe.drawn shoe.order)
@@ -95,7 +95,7 @@ pub cleared-laid : (purse-of : Seat → ℕ) (s : Seat) (p : ℕ) → laid (gues
 cleared-laid purse-of s p = nothing-laid (guest_at (cleared purse-of s) p) (cleared-bets purse-of s p)
 
 pub cleared-prizes : (o : Options) (purse-of : Seat → ℕ) (s : Seat) (p : ℕ) → prizes o (guest_at (cleared purse-of s) p) ≡ 0
-cleared-prizes o purse-of s p = unstaked_prizes o (guest_at (cleared purse-of s) p) (cleared-bets purse-of s p).no-stake
+cleared-prizes o purse-of s p = unstaked_prizes o (guest_at (cleared purse-of s) p) (cleared-bets purse-of s p).no_stake_lem
 
 cleared-cards : (w : ℕ → ℕ) (purse-of : Seat → ℕ) (s : Seat) → sum_of w (seat_cards (cleared purse-of s)) ≡ 0
 unfolding sum_of flat
@@ -108,9 +108,9 @@ cleared_at purse-of seats i h = get_d_any (map (cleared purse-of) seats) i missi
 cleared_shaped : (purse-of : Seat → ℕ) (s : Seat) → ShapedSeat (cleared purse-of s)
 cleared_shaped purse-of s =
     record {
-      four-places = refl;
-      two-others = refl;
-      four-sides = λ p h. ap (λ (m : Money). length m.sides) (cleared-guest purse-of s p h);
+      four_places = refl;
+      two_others = refl;
+      four_sides = λ p h. ap (λ (m : Money). length m.sides) (cleared-guest purse-of s p h);
       three_first = refl;
       twenty_cards = λ p h. ap (λ (x : SeatHand). length x.hand.cards) (get_or-replicate 4 p empty_place missing_place h);
     }
@@ -120,26 +120,26 @@ module _ (t : Table) (tray : ℕ) (purse-of : Seat → ℕ) (shoe : Shoe) (k : �
   after = round_ended t tray purse-of shoe
 
   all-drawn : shoe.drawn ≤ 52 * t.options.decks
-  all-drawn = omega (arith, end.more-drawn, end.enough)
+  all-drawn = omega (arith, end.more_drawn, end.enough)
 
   -- the drawn part of the order, and the discards are it
   drawn-length : length (take shoe.drawn shoe.order) ≡ shoe.drawn
-  drawn-length = length-take-le shoe.drawn shoe.order (omega (arith, all-drawn, decks_416 t sound, ap length end.same-order, shaped.order))
+  drawn-length = length-take-le shoe.drawn shoe.order (omega (arith, all-drawn, decks_416 t sound, ap length end.same_order, shaped.order))
 
   discards-after : discards_of shoe ≡ take shoe.drawn shoe.order
   discards-after =
       let cards = take shoe.drawn shoe.order in
-      ap (λ (n : ℕ). take n shoe.discards) (end.all-discarded ∙ sym drawn-length)
-      ∙ ap (take (length cards)) end.all-discards
+      ap (λ (n : ℕ). take n shoe.discards) (end.all_discarded ∙ sym drawn-length)
+      ∙ ap (take (length cards)) end.all_discards
       ∙ sets_front t.shoe.discards cards (omega (arith, drawn-length, all-drawn, decks_416 t sound, shaped.discards))
 
   pub end_shaped : Shaped after
   end_shaped = record {
-    nine-seats = length-map t.seats (cleared purse-of) ∙ shaped.nine-seats;
+    nine_seats_lem = length-map t.seats (cleared purse-of) ∙ shaped.nine_seats_lem;
     seats = λ i h. rw (cleared_at purse-of t.seats i (omega arith)) (cleared_shaped purse-of (seat_at t i));
     bank = refl;
-    order = ap length end.same-order ∙ shaped.order;
-    discards = ap length end.all-discards ∙ length-sets t.shoe.discards 0 (take shoe.drawn shoe.order) ∙ shaped.discards;
+    order = ap length end.same_order ∙ shaped.order;
+    discards = ap length end.all_discards ∙ length-sets t.shoe.discards 0 (take shoe.drawn shoe.order) ∙ shaped.discards;
   }
 
   -- a number that each such seat has 0 of comes to 0
@@ -181,12 +181,12 @@ module _ (t : Table) (tray : ℕ) (purse-of : Seat → ℕ) (shoe : Shoe) (k : �
       record {
         beyond = λ h.
             record {
-              no_purse = cleared-purse purse-of s p (λ far. absurd (omega arith)) ∙ end.nothing-stays (guest_at s p) (was.beyond h).no-purse (was.beyond h).no-bets;
+              no_purse = cleared-purse purse-of s p (λ far. absurd (omega arith)) ∙ end.nothing_stays (guest_at s p) (was.beyond h).no_purse (was.beyond h).no_bets;
               no_bets = none;
               no_hands = ap (λ (x : SeatHands). x.many) (guest-hands (cleared purse-of s) p);
             };
-        stake-fits = λ h. absurd (omega (arith, none.no-stake));
-        insured = λ h. absurd (omega (arith, none.no-insurance));
+        stake_fits = λ h. absurd (omega (arith, none.no_stake_lem));
+        insured = λ h. absurd (omega (arith, none.no_insurance));
         sides_fit = λ k m h. absurd (omega (arith, none.no_sides k m));
         prizes_back = omega (arith, cleared-prizes t.options purse-of s p);
       }
@@ -195,7 +195,7 @@ module _ (t : Table) (tray : ℕ) (purse-of : Seat → ℕ) (shoe : Shoe) (k : �
   end-seat i s =
       record {
         guests = λ p h. end-guest i p h (s.guests p h);
-        seated_first_lem = λ p h none. (cleared-bets purse-of (seat_at t i) p).no-stake;
+        seated_first_lem = λ p h none. (cleared-bets purse-of (seat_at t i) p).no_stake_lem;
         waiting = λ none dealt. refl;
         playing = λ h. absurd (omega arith);
       }
@@ -203,13 +203,13 @@ module _ (t : Table) (tray : ℕ) (purse-of : Seat → ℕ) (shoe : Shoe) (k : �
   pub end-sound : Sound after
   end-sound = record {
     options = sound.options;
-    begun = (still_begun t shoe k sound end.same-begun end.more-drawn end.drawn-before).0;
-    begun-drawn = (still_begun t shoe k sound end.same-begun end.more-drawn end.drawn-before).1;
-    valid = rw end.same-order sound.valid;
+    begun = (still_begun t shoe k sound end.same_begun end.more_drawn end.drawn_before).0;
+    begun_drawn = (still_begun t shoe k sound end.same_begun end.more_drawn end.drawn_before).1;
+    valid = rw end.same_order sound.valid;
     drawn = all-drawn;
-    discarded = omega (arith, end.all-discarded, all-drawn, decks_416 t sound);
-    discarded_drawn = omega (arith, end.all-discarded);
-    discards = λ i h. same_taken shoe.discarded shoe.discards shoe.order 0 (discards-after ∙ ap (λ (n : ℕ). take n shoe.order) (sym end.all-discarded)) i h;
+    discarded = omega (arith, end.all_discarded, all-drawn, decks_416 t sound);
+    discarded_drawn = omega (arith, end.all_discarded);
+    discards = λ i h. same_taken shoe.discarded shoe.discards shoe.order 0 (discards-after ∙ ap (λ (n : ℕ). take n shoe.order) (sym end.all_discarded)) i h;
     faces = λ b h. out-cards (is_it b);
     number =
         omega (

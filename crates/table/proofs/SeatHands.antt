@@ -11,7 +11,7 @@ use lib.ListN.{length, take, get_or, set, length-set}
 use lib.Seq.{take-set-lt, take-take, length-take-le, get_or-take}
 use borrow.Author.Tests.{ne_eqb}
 use Rattle.lists.specs.Sum.{sum_of}
-use Rattle.lists.proofs.Sums.{sum-set, sum_flat}
+use Rattle.lists.proofs.Sums.{sum-set, sum-flat}
 use Rattle.lists.proofs.Places.{map-set, holds-set}
 use Rattle.lists.proofs.Inserts.{two-for, take-two_for, length-two_for, sum-two_for, holds-two_for, map-two_for}
 use Rattle.options.specs.declared.Options.{Options}
@@ -47,7 +47,7 @@ unfolding prizes
 guest-prizes o s p = ap (λ (x : SeatHands). sum_of (prize o (stake (guest_at s p))) (hands_of x)) (guest-hands s p)
 
 pub seat_cards_lem : (w : ℕ → ℕ) (s : Seat) → sum_of w (seat_cards s) ≡ sum_of (λ h. sum_of w h.cards) (hands s)
-seat_cards_lem w s = sum_flat w (λ h. h.cards) (hands s)
+seat_cards_lem w s = sum-flat w (λ h. h.cards) (hands s)
 
 -- the seat with another hand at p, and with two hands for the one there and these first cards
 abbrev pub with-hand : Seat → ℕ → SeatHand → Seat
@@ -62,11 +62,11 @@ unfolding sound_origin sound_ending sound_surrender
 one_more o up many h two f =
     let before : eqb many 1 ≡ false = ne_eqb many 1 (λ e. omega arith) in
     let after : eqb (many + 1) 1 ≡ false = ne_eqb (many + 1) 1 (λ e. omega arith) in
-    record { two_cards_lem = f.two-cards; twenty_cards = f.twenty-cards; played = f.played; origin = cc; ended = cc }
+    record { two_cards_lem = f.two_cards_lem; twenty_cards = f.twenty_cards; played = f.played; origin = cc; ended = cc }
 
 module _ (s : Seat) (p : ℕ) (shaped : ShapedSeat s) (few : s.hands.many ≤ 4) (here : p < s.hands.many) where
   pub how_many : length (hands s) ≡ s.hands.many
-  how_many = omega (arith, many_hands s.hands shaped.four-places)
+  how_many = omega (arith, many_hands s.hands shaped.four_places)
 
   pub hand_is : get_or (hands s) p (played_of missing_place) ≡ played_of (get_or s.hands.places p missing_place)
   hand_is = hand_at s.hands p missing_place here
@@ -78,11 +78,11 @@ module _ (s : Seat) (p : ℕ) (shaped : ShapedSeat s) (few : s.hands.many ≤ 4)
     pub shaped_with : length h.hand.cards ≡ 20 → ShapedSeat (with-hand s p h)
     shaped_with full =
         record {
-          four-places = length-set s.hands.places p h ∙ shaped.four-places;
-          two-others = shaped.two-others;
-          four-sides = λ q l. ap (λ (m : Money). length m.sides) (guest_money (with-hand s p h) s refl refl q) ∙ shaped.four-sides q l;
-          three_first = shaped.three-first;
-          twenty_cards = λ q l. holds-set (λ n x. length x.hand.cards ≡ 20) s.hands.places p q h missing_place (omega (arith, shaped.four-places)) full (shaped.twenty-cards q l);
+          four_places = length-set s.hands.places p h ∙ shaped.four_places;
+          two_others = shaped.two_others;
+          four_sides = λ q l. ap (λ (m : Money). length m.sides) (guest_money (with-hand s p h) s refl refl q) ∙ shaped.four_sides q l;
+          three_first = shaped.three_first;
+          twenty_cards = λ q l. holds-set (λ n x. length x.hand.cards ≡ 20) s.hands.places p q h missing_place (omega (arith, shaped.four_places)) full (shaped.twenty_cards q l);
         }
 
     pub each_with : (o : Options) (up : ℕ)
@@ -90,7 +90,7 @@ module _ (s : Seat) (p : ℕ) (shaped : ShapedSeat s) (few : s.hands.many ≤ 4)
         → SoundHand o up s.hands.many h
         → (q : ℕ) → q < s.hands.many → q < length (set s.hands.places p h) → SoundHand o up s.hands.many (get_or (set s.hands.places p h) q missing_place)
     each_with o up each new q l _ =
-        holds-set (λ n x. SoundHand o up s.hands.many x) s.hands.places p q h missing_place (omega (arith, shaped.four-places)) new (each q l (omega (arith, shaped.four-places)))
+        holds-set (λ n x. SoundHand o up s.hands.many x) s.hands.places p q h missing_place (omega (arith, shaped.four_places)) new (each q l (omega (arith, shaped.four_places)))
 
     pub sum_with : (f : Played → ℕ) → sum_of f (hands (with-hand s p h)) + f (played_of (get_or s.hands.places p missing_place)) ≡ sum_of f (hands s) + f (played_of h)
     sum_with f = rw (hands_with, ← hand_is) (sum-set f (hands s) p (played_of h) (played_of missing_place) (omega (arith, how_many)))
@@ -105,13 +105,13 @@ module _ (s : Seat) (p : ℕ) (shaped : ShapedSeat s) (few : s.hands.many ≤ 4)
     pub shaped_two : length a.hand.cards ≡ 20 → length b.hand.cards ≡ 20 → length first ≡ 3 → ShapedSeat (with_two s p a b first)
     shaped_two full-a full-b three =
         record {
-          four-places = length-take-le 4 (two-for s.hands.places p a b) (omega (arith, length-two_for s.hands.places p a b (omega (arith, shaped.four-places)), shaped.four-places));
-          two-others = shaped.two-others;
-          four-sides = λ q l. ap (λ (m : Money). length m.sides) (guest_money (with_two s p a b first) s refl refl q) ∙ shaped.four-sides q l;
+          four_places = length-take-le 4 (two-for s.hands.places p a b) (omega (arith, length-two_for s.hands.places p a b (omega (arith, shaped.four_places)), shaped.four_places));
+          two_others = shaped.two_others;
+          four_sides = λ q l. ap (λ (m : Money). length m.sides) (guest_money (with_two s p a b first) s refl refl q) ∙ shaped.four_sides q l;
           three_first = three;
           twenty_cards = λ q l.
               rw (get_or-take 4 (two-for s.hands.places p a b) q missing_place l)
-              (holds-two_for (λ x. length x.hand.cards ≡ 20) s.hands.places p 4 a b missing_place (omega (arith, shaped.four-places)) (omega arith) full-a full-b shaped.twenty-cards q (omega arith));
+              (holds-two_for (λ x. length x.hand.cards ≡ 20) s.hands.places p 4 a b missing_place (omega (arith, shaped.four_places)) (omega arith) full-a full-b shaped.twenty_cards q (omega arith));
         }
 
     pub each_two : (o : Options) (up : ℕ) → s.hands.many < 4
@@ -129,8 +129,8 @@ module _ (s : Seat) (p : ℕ) (shaped : ShapedSeat s) (few : s.hands.many ≤ 4)
         -- beside others it finds them unchanged; a seat's only hand has none beside it
         go : Dec (2 ≤ s.hands.many) → (q : ℕ) → q < s.hands.many + 1 → SoundHand o up (s.hands.many + 1) (get_or (two-for s.hands.places p a b) q missing_place)
         go (yes two) q l =
-            holds-two_for (SoundHand o up (s.hands.many + 1)) s.hands.places p s.hands.many a b missing_place (omega (arith, shaped.four-places)) here new-a new-b
-            (λ k m. one_more o up s.hands.many _ two (each k m (omega (arith, shaped.four-places)))) q (omega arith)
+            holds-two_for (SoundHand o up (s.hands.many + 1)) s.hands.places p s.hands.many a b missing_place (omega (arith, shaped.four_places)) here new-a new-b
+            (λ k m. one_more o up s.hands.many _ two (each k m (omega (arith, shaped.four_places)))) q (omega arith)
         go (no one) q l = let only : p ≡ 0 = omega arith in rw only (both q (omega arith))
 
     pub sum-two : s.hands.many < 4 → (f : Played → ℕ) → sum_of f (hands (with_two s p a b first)) + f (played_of (get_or s.hands.places p missing_place)) ≡ sum_of f (hands s) + f (played_of a) + f (played_of b)

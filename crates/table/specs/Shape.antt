@@ -6,14 +6,14 @@ use Rattle.table.specs.Seat.{missing_place, guest_at}
 use Rattle.table.specs.Table.{seat_at}
 
 pub record ShapedSeat (s : Seat) : Type 0 where
-  pub four-places : length s.hands.places ≡ 4
-  pub two-others : length s.others ≡ 2
-  pub four-sides : (p : ℕ) → p < 3 → length (guest_at s p).money.sides ≡ 4
+  pub four_places : length s.hands.places ≡ 4
+  pub two_others : length s.others ≡ 2
+  pub four_sides : (p : ℕ) → p < 3 → length (guest_at s p).money.sides ≡ 4
   pub three_first : length s.first ≡ 3
   pub twenty_cards : (p : ℕ) → p < 4 → length (get_or s.hands.places p missing_place).hand.cards ≡ 20
 
 pub record Shaped (t : Table) : Type 0 where
-  pub nine-seats : length t.seats ≡ 9
+  pub nine_seats_lem : length t.seats ≡ 9
   pub seats : (i : ℕ) → i < 9 → ShapedSeat (seat_at t i)
   pub bank : length t.bank.cards ≡ 20
   pub order : length t.shoe.order ≡ 416

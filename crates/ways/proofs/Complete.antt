@@ -11,7 +11,7 @@ use lib.ListN.{length, get_or}
 use borrow.Author.Tests.{eqb-true, eqb-false, ne_eqb, le-leb, lt-leb}
 use Rattle.lists.specs.Sum.{sum_of}
 use Rattle.lists.specs.Tests.{all_of, any_of}
-use Rattle.lists.proofs.Sums.{sum_flat, sum-at-same}
+use Rattle.lists.proofs.Sums.{sum-flat, sum-at-same}
 use Rattle.lists.proofs.Tests.{cond_same}
 use Rattle.call.specs.declared.At.{At}
 use Rattle.call.specs.declared.Call.TheVariants.{Close}
@@ -107,7 +107,7 @@ module _ (at : At) (t : Table) where
       go zero false true e f = ap (times_in []) (spent at t (eqb-true _ _ f))
       go (suc n) false true e f =
           ap (times_in []) (goes at t n (eqb-true _ _ f))
-          ∙ sum_flat (λ other. cond (same_list [] other) 1 0) (beginning (ways_from n at) t at) decision_kinds
+          ∙ sum-flat (λ other. cond (same_list [] other) 1 0) (beginning (ways_from n at) t at) decision_kinds
           ∙ omega (
             arith,
             none-beginning n at t 8,
@@ -140,7 +140,7 @@ module _ (at : At) (t : Table) where
   goes-times : (n d : ℕ) (ds : List ℕ) → number t Close [] ≡ 7 → times_in (d ∷ ds) (ways_from (suc n) at t) ≡ cond (is_decision d) (behind n at t ds d) 0
   goes-times n d ds waits =
       ap (times_in (d ∷ ds)) (goes at t n waits)
-      ∙ sum_flat (λ other. cond (same_list (d ∷ ds) other) 1 0) (beginning (ways_from n at) t at) decision_kinds
+      ∙ sum-flat (λ other. cond (same_list (d ∷ ds) other) 1 0) (beginning (ways_from n at) t at) decision_kinds
       ∙ sum-at-same (λ kind. times_in (d ∷ ds) (beginning (ways_from n at) t at kind)) (λ kind. cond (eqb d kind) (behind n at t ds kind) 0) decision_kinds 0 (λ i h. times-beginning n at t d ds (get_or decision_kinds i 0))
       ∙ picks (behind n at t ds) d
 

@@ -13,7 +13,7 @@ use borrow.Author.Tests.{ne_eqb}
 use Rattle.lists.specs.Flat.{flat}
 use Rattle.lists.specs.Sum.{sum_of}
 use Rattle.lists.proofs.Sums.{sum-take, sum-most}
-use Rattle.lists.proofs.Parts.{sum_before}
+use Rattle.lists.proofs.Parts.{sum-before}
 use Rattle.lists.proofs.Places.{get_d_any}
 use Rattle.call.specs.declared.At.{At}
 use Rattle.call.specs.declared.Call.TheVariants.{Close}
@@ -150,7 +150,7 @@ ways_fit n at t h =
 
 pub begun_fit : (at : At) (t : Table) (n i : ℕ) → n < 8 → i < 6 → number t Close [] ≡ 7 → sum_of (begun n at t) (take i decision_kinds) + begun n at t (get_or decision_kinds i 0) ≤ 1679616
 begun_fit at t n i h inside waits =
-    omega (arith, sum_before (begun n at t) decision_kinds i 0 inside, goes_length at t n waits, ways_fit (suc n) at t h)
+    omega (arith, sum-before (begun n at t) decision_kinds i 0 inside, goes_length at t n waits, ways_fit (suc n) at t h)
 
 -- those that begin with one of the first i decisions, and the next
 pub sum-next : (f : ℕ → ℕ) (i all one sum : ℕ) → i < 6 → all ≡ sum_of f (take i decision_kinds) → one ≡ f (get_or decision_kinds i 0) → sum ≡ all + one → sum ≡ sum_of f (take (i + 1) decision_kinds)

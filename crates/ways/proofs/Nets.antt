@@ -117,12 +117,12 @@ module _ (t : Table) (whole : Whole t) (ends : number t Close [] ≡ 0) where
   lines-diff =
       all_diff o (close_score t) 0 t.seats (λ k seat h.
       let s = seat_at t k in
-      let inside : k < 9 = omega (arith, whole.shaped.nine-seats) in
+      let inside : k < 9 = omega (arith, whole.shaped.nine_seats_lem) in
       let sound = dealt_seat_lem t ok.sound ok.dealt k inside in
-      let many = hands_many s (whole.shaped.seats k inside).four-places (most_many o true (up t) k s (sound_options t ok.sound).hands-most sound) in
+      let many = hands_many s (whole.shaped.seats k inside).four_places (most_many o true (up t) k s (sound_options t ok.sound).hands_most sound) in
       seat_diff o (close_score t) seat s (λ p l.
       guest-diff o (close_score t) seat p (guest_at s p) (insured-most o (up t) k (guest_at s p) (sound.guests p l))
-      (λ none. sound.seated-first p l (sound.waiting (omega (arith, ap (λ (hs : SeatHands). length (hands_of hs)) (guest-hands s p))) refl))
+      (λ none. sound.seated_first_lem p l (sound.waiting (omega (arith, ap (λ (hs : SeatHands). length (hands_of hs)) (guest-hands s p))) refl))
       (no_sides o true (up t) k (guest_at s p) (sound.guests p l))))
     where
       o : Options
@@ -164,16 +164,16 @@ module _ (t : Table) (whole : Whole t) (ends : number t Close [] ≡ 0) where
         arith,
         sum-at-most (over_guests (prizes o)) (λ s. over_guests purse s + over_guests laid s) t.seats missing_seat
             (λ i h.
-            let inside : i < 9 = omega (arith, whole.shaped.nine-seats) in
+            let inside : i < 9 = omega (arith, whole.shaped.nine_seats_lem) in
             let guests = (ok.sound.seats i inside).guests in
-            omega (arith, (guests 0 (omega arith)).prizes-back, (guests 1 (omega arith)).prizes-back, (guests 2 (omega arith)).prizes-back)),
+            omega (arith, (guests 0 (omega arith)).prizes_back, (guests 1 (omega arith)).prizes_back, (guests 2 (omega arith)).prizes_back)),
         sum-plus (over_guests purse) (over_guests laid) t.seats,
       )
 
   -- the numbers that the code sums up on both tables
   pub record EndMoney (before after : Sums) : Type 0 where
     pub small-after : after.purses ≤ 1000000000000000
-    pub small_before : before.purses + before.laid ≤ 1000000000000000
+    pub small-before : before.purses + before.laid ≤ 1000000000000000
     pub few_prizes : before.prizes ≤ before.purses + before.laid
     pub comes_to : end_sum t ≡ pos after.purses -ℤ pos (before.purses + before.laid - before.prizes)
 
@@ -189,7 +189,7 @@ module _ (t : Table) (whole : Whole t) (ends : number t Close [] ≡ 0) where
       let paid : purses u ≡ purses t + goes_back = ap purses behind ∙ purses-after in
       record {
         small-after = omega arith;
-        small_before = omega arith;
+        small-before = omega arith;
         few_prizes = omega (arith, prizes-most);
         comes_to = diff_net sum-diff after.purses (before.purses + before.laid - before.prizes) (omega (arith, prizes-most));
       }

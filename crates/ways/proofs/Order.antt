@@ -28,15 +28,15 @@ all_append f [] ys a b = b
 all_append f (x ∷ xs) ys a b = let (here, later) = (and-eq-true_iff (f x) (all_of f xs)).0 a in simp (here, all_append f xs ys later b)
 
 -- a list that begins with k comes before all that begin with something later
-before_all : (k : ℕ) (one : List ℕ) (others : List (List ℕ)) → head_is (λ x. eqb x k) one ≡ true → all_of (head_is (ltb k)) others ≡ true → all_of (comes_before one) others ≡ true
+before-all : (k : ℕ) (one : List ℕ) (others : List (List ℕ)) → head_is (λ x. eqb x k) one ≡ true → all_of (head_is (ltb k)) others ≡ true → all_of (comes_before one) others ≡ true
 unfolding all_of head_is comes_before
-before_all k one [] starts later = refl
-before_all k [] (other ∷ others) starts later = absurd (true≢false (sym starts))
-before_all k (x ∷ xs) ([] ∷ others) starts later = absurd (true≢false (sym later))
-before_all k (x ∷ xs) ((y ∷ ys) ∷ others) starts later =
+before-all k one [] starts later = refl
+before-all k [] (other ∷ others) starts later = absurd (true≢false (sym starts))
+before-all k (x ∷ xs) ([] ∷ others) starts later = absurd (true≢false (sym later))
+before-all k (x ∷ xs) ((y ∷ ys) ∷ others) starts later =
     let (here, behind) = (and-eq-true_iff (ltb k y) (all_of (head_is (ltb k)) others)).0 later in
     let same : x ≡ k = eqb-true x k starts in
-    simp (ap (λ (n : ℕ). ltb n y) same ∙ here, before_all k (x ∷ xs) others starts behind)
+    simp (ap (λ (n : ℕ). ltb n y) same ∙ here, before-all k (x ∷ xs) others starts behind)
 
 -- lists in order, one group behind the other
 order-append : (k : ℕ) (xs ys : List (List ℕ)) → in_order xs ≡ true → in_order ys ≡ true → all_of (head_is (λ x. eqb x k)) xs ≡ true → all_of (head_is (ltb k)) ys ≡ true → in_order (xs ++ ys) ≡ true
@@ -45,7 +45,7 @@ order-append k [] ys a b starts later = b
 order-append k (x ∷ xs) ys a b starts later =
     let (here, rest) = (and-eq-true_iff (all_of (comes_before x) xs) (in_order xs)).0 a in
     let (head, heads) = (and-eq-true_iff (head_is (λ y. eqb y k) x) (all_of (head_is (λ y. eqb y k)) xs)).0 starts in
-    simp (all_append (comes_before x) xs ys here (before_all k x ys head later), order-append k xs ys rest b heads later)
+    simp (all_append (comes_before x) xs ys here (before-all k x ys head later), order-append k xs ys rest b heads later)
 
 -- numbers that rise
 rising : List ℕ → Bool
@@ -76,17 +76,17 @@ module _ (f : ℕ → List (List ℕ)) (starts : (k : ℕ) → all_of (head_is (
       order-append k (f k) (flat f ks) (each k) (order-flat each ks rest) (starts k) (heads-flat k ks above)
 
 -- the lists that begin with one decision
-map_before : (k : ℕ) (one : List ℕ) (others : List (List ℕ)) → all_of (comes_before (k ∷ one)) (map (λ decisions. k ∷ decisions) others) ≡ all_of (comes_before one) others
+map-before : (k : ℕ) (one : List ℕ) (others : List (List ℕ)) → all_of (comes_before (k ∷ one)) (map (λ decisions. k ∷ decisions) others) ≡ all_of (comes_before one) others
 unfolding all_of comes_before
-map_before k one [] = refl
-map_before k one (other ∷ others) =
+map-before k one [] = refl
+map-before k one (other ∷ others) =
     let here : comes_before (k ∷ one) (k ∷ other) ≡ comes_before one other = simp (le-ltb k k (omega arith), eq-eqb k k refl) in
-    ap₂ (λ (a b : Bool). a && b) here (map_before k one others)
+    ap₂ (λ (a b : Bool). a && b) here (map-before k one others)
 
 map-order : (k : ℕ) (lists : List (List ℕ)) → in_order (map (λ decisions. k ∷ decisions) lists) ≡ in_order lists
 unfolding in_order
 map-order k [] = refl
-map-order k (l ∷ ls) = ap₂ (λ (a b : Bool). a && b) (map_before k l ls) (map-order k ls)
+map-order k (l ∷ ls) = ap₂ (λ (a b : Bool). a && b) (map-before k l ls) (map-order k ls)
 
 map_heads : (k : ℕ) (lists : List (List ℕ)) → all_of (head_is (λ x. eqb x k)) (map (λ decisions. k ∷ decisions) lists) ≡ true
 unfolding all_of head_is

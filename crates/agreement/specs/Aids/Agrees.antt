@@ -22,7 +22,7 @@ pub record GuestAgrees (o : Options) (opening : List ℕ) (es : List Entry) (i p
   pub stake_is : stake s ≡ stake_in es i p
   pub insurance_is : insurance s ≡ insurance_in es i p
   pub sides_are : (k : ℕ) → k < 4 → get_or (sides s) k 0 ≡ side_in es i p (k + 1)
-  pub laid-is : laid s ≡ laid_in es i p
+  pub laid_is : laid s ≡ laid_in es i p
   pub prizes_are : prizes o s ≡ prizes_in o opening es i p
   pub purse_is : pos (purse s) ≡ purse_of o opening es i p
 

@@ -8,7 +8,7 @@ use lib.Dec.{ltb}
 use borrow.Author.Tests.{leb-false}
 use Rattle.lists.specs.Tests.{all_of}
 use Rattle.call.specs.Refusal.{Condition, first}
-use Rattle.call.proofs.Refusals.{first_before, first-behind, none_hold}
+use Rattle.call.proofs.Refusals.{first-before, first-behind, none_hold}
 use Rattle.table.specs.declared.Table.{Table}
 use Rattle.table.specs.Table.{no_such_seat}
 use Rattle.table.specs.Broken.{broken}
@@ -23,7 +23,7 @@ seat-asked t j phase wrong holds n e whole same-phase = e ∙ rw (whole, same-ph
 
 module _ (phase : Condition) (t : Table) (j n : ℕ) (e : n ≡ first (seat_conditions phase t j)) where
   pub seat_refuses : (n ≡ 0 → ⊥) → (rest : List Condition) → n ≡ first (seat_conditions phase t j ++ rest)
-  seat_refuses some rest = sym (first_before (seat_conditions phase t j) rest n (sym e) some)
+  seat_refuses some rest = sym (first-before (seat_conditions phase t j) rest n (sym e) some)
 
   module _ (number : ltb 0 phase.0 ≡ true) (none : n ≡ 0) where
     seat-numbers : all_of (λ c. ltb 0 c.0) (seat_conditions phase t j) ≡ true
@@ -47,7 +47,7 @@ guest-asked t j p phase wrong holds n e whole same-phase = e ∙ rw (whole, same
 
 module _ (phase : Condition) (t : Table) (j p n : ℕ) (e : n ≡ first (guest_conditions phase t j p)) where
   pub guest_refuses : (n ≡ 0 → ⊥) → (rest : List Condition) → n ≡ first (guest_conditions phase t j p ++ rest)
-  guest_refuses some rest = sym (first_before (guest_conditions phase t j p) rest n (sym e) some)
+  guest_refuses some rest = sym (first-before (guest_conditions phase t j p) rest n (sym e) some)
 
   module _ (number : ltb 0 phase.0 ≡ true) (none : n ≡ 0) where
     guest-numbers : all_of (λ c. ltb 0 c.0) (guest_conditions phase t j p) ≡ true

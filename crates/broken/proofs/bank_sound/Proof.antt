@@ -26,7 +26,7 @@ returns-2 c =
     let t = start.args.t in
     let full : length t.seats ≡ 9 = simp length-map at start.well-formed.0.1.1.1.1.0.1.0.1 in
     simp (ne_eqb _ _ asked.before.if1.false, eq-eqb _ _ (c.before.if2.true ∙ asked.bank-at-deal.ensures))
-    (sym (some_stakes t start.args.m start.requires.0 full (λ i h. (seat_facts t.options (is_dealt t) (up t) i (seat_at t i) (all_below_lem (seat_sound t) 9 i start.requires.1 h)).seated-first)))
+    (sym (some_stakes t start.args.m start.requires.0 full (λ i h. (seat_facts t.options (is_dealt t) (up t) i (seat_at t i) (all_below_lem (seat_sound t) 9 i start.requires.1 h)).seated_first_lem)))
 
 returns-3 : tie.Need-returns-3
 unfolding sound_bank

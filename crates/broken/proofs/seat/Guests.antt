@@ -21,7 +21,7 @@ use Rattle.table.proofs.Facts.{nothing_facts, nobody_beside, nothing-laid, unsta
 use Rattle.money.specs.declared.sums.Sums.{Sums}
 use Rattle.money.specs.Sums.{make_sums, no_sums, capped, guest_sums, seat_sums, plus_sums}
 use Rattle.money.specs.SumsFit.{SumsFit}
-use Rattle.money.proofs.sums.Pass.{fits_in_lem, no_guests_fit, seat-fits, nothing_summed, none_more}
+use Rattle.money.proofs.sums.Pass.{fits_in_lem, no_guests_fit, seat_fits, nothing_summed, none_more}
 use Rattle.broken.specs.declared.hand.Looked.{Looked}
 use Rattle.broken.specs.declared.seat.Survey.{Survey}
 use Rattle.broken.specs.Aids.LookedAt.{LookedAt}
@@ -42,7 +42,7 @@ module _ (o : Options) (in_round : Bool) (up i : ℕ) where
   unfolding sound_guest sound_stake sound_insurance sound_prizes
   empty-sound g bets =
       let sided = sides-none g (below_all _ 4 (λ k h. eq-eqb _ _ (bets.no_sides k h))) in
-      simp (bets.no-stake, bets.no-insurance, sided, unstaked_prizes o g bets.no-stake, le-leb 0 (purse g + laid g) (omega arith), and-true)
+      simp (bets.no_stake_lem, bets.no_insurance, sided, unstaked_prizes o g bets.no_stake_lem, le-leb 0 (purse g + laid g) (omega arith), and-true)
 
   pub empty-surveyed : (r g : Seat) (sound : Bool) (sums : Sums) → r ≡ g → purse r ≡ 0 → NoBets r → sound ≡ sound_number o i r → sums ≡ no_sums
       → Surveyed (passes g) (guest_sums o g) 1 (record { sound = sound; sums = sums })
@@ -62,7 +62,7 @@ module _ (o : Options) (in_round : Bool) (up i : ℕ) where
         record {
           sound = all.0 ∙ ap₂ ◌&&◌ (both.0 ∙ ap₂ ◌&&◌ (seated.sound ∙ ap passes same) one.sound) two.sound;
           sums = all.1 ∙ ap₂ plus_sums (both.1 ∙ ap₂ plus_sums (seated.sums ∙ ap (guest_sums o) same) one.sums) two.sums;
-          fits = seat-fits o s (subst (λ (x : Seat). SumsFit 1 (guest_sums o x)) same seated.fits) one.fits two.fits;
+          fits = seat_fits o s (subst (λ (x : Seat). SumsFit 1 (guest_sums o x)) same seated.fits) one.fits two.fits;
         }
 
     -- a guest without money beside a sound one: the seat's number, which is asked of both, and its hands are the same
@@ -98,7 +98,7 @@ module _ (o : Options) (in_round : Bool) (up i : ℕ) where
     lone-first nobody = go (dec_le (stake s) 0)
       where
         none : (p : ℕ) → is_nobody (guest_at s p).money ≡ true → eqb (stake (guest_at s p)) 0 ≡ true
-        none p e = eq-eqb _ _ (nothing_facts (guest_at s p) e).1.no-stake
+        none p e = eq-eqb _ _ (nothing_facts (guest_at s p) e).1.no_stake_lem
 
         go : Dec (stake s ≤ 0) → seated_first s ≡ true
         go (yes h) = let (first, second) = nobody_beside s nobody in unseated s h ∙ simp (none 1 first, none 2 second)
@@ -127,14 +127,14 @@ module _ (o : Options) (in_round : Bool) (up i : ℕ) where
     module _ (rest : AtRest s) where
       none-due : sound_hands o in_round up s ≡ true
       unfolding sound_hands
-      none-due = simp (rest.no-hand, rest.bets.no-stake, and-false)
+      none-due = simp (rest.no_hand, rest.bets.no_stake_lem, and-false)
 
       purse_alone : guest_sums o s ≡ make_sums 0 0 0 0 (capped (purse s))
       purse_alone =
           let bets = rest.bets in
           let cover : seat_cover s ≡ 0 =
-          omega (arith, bets.no-stake, bets.no_sides 0 (omega arith), bets.no_sides 1 (omega arith), bets.no_sides 2 (omega arith), bets.no_sides 3 (omega arith)) in
-          λ j. make_sums (bets.no-stake j) (nothing-laid s bets j) (unstaked_prizes o s bets.no-stake j) (cover j) (capped (purse s))
+          omega (arith, bets.no_stake_lem, bets.no_sides 0 (omega arith), bets.no_sides 1 (omega arith), bets.no_sides 2 (omega arith), bets.no_sides 3 (omega arith)) in
+          λ j. make_sums (bets.no_stake_lem j) (nothing-laid s bets j) (unstaked_prizes o s bets.no_stake_lem j) (cover j) (capped (purse s))
 
       purse_fits : SumsFit 1 (guest_sums o s)
       purse_fits =
@@ -144,7 +144,7 @@ module _ (o : Options) (in_round : Bool) (up i : ℕ) where
       number-alone : sound_number o i s ≡ (ltb i o.seats || eqb (purse s) 0)
       unfolding sound_number
       number-alone =
-          simp (rest.no-hand, eq-eqb _ _ rest.bets.no-stake, eq-eqb _ _ rest.bets.no-insurance, below_all (λ k. eqb (get_or (sides s) k 0) 0) 4 (λ k h. eq-eqb _ _ (rest.bets.no_sides k h)), and-true)
+          simp (rest.no_hand, eq-eqb _ _ rest.bets.no_stake_lem, eq-eqb _ _ rest.bets.no_insurance, below_all (λ k. eqb (get_or (sides s) k 0) 0) 4 (λ k h. eq-eqb _ _ (rest.bets.no_sides k h)), and-true)
 
       pub resting : (a : Survey) → nobody_in s.others ≡ true → a.sound ≡ (ltb i o.seats || eqb (purse s) 0) → a.sums ≡ make_sums 0 0 0 0 (capped (purse s))
           → Surveyed (sound_seat o in_round up i s) (seat_sums o s) 3 a

@@ -13,7 +13,7 @@ in-range-requires c κs = search rules
 
 returns : tie.Need-returns
 unfolding sound
-returns c = simp (sym c.before.in-range.ensures ∙ not-true c.before.in-range.result c.if1.true)
+returns c = simp (sym c.before.in_range_lem.ensures ∙ not-true c.before.in_range_lem.result c.if1.true)
 
 begun-sound-requires : tie.Need-begun-sound-requires
 begun-sound-requires c κs = search rules
@@ -21,7 +21,7 @@ begun-sound-requires c κs = search rules
 returns-2 : tie.Need-returns-2
 unfolding sound
 returns-2 c =
-    let range = c.before.before.before.in-range in
+    let range = c.before.before.before.in_range_lem in
     simp (
       sym range.ensures ∙ not-false range.result c.before.before.if1.false,
       sym c.before.begun-sound.ensures ∙ not-true c.before.begun-sound.result c.if2.true,
@@ -44,7 +44,7 @@ returns-3 c =
     let t = range.before.before.args.t in
     let order = (and-eq-true_iff (sound_shoe t) (sound_discards t)).0 (sym ordered.order-sound.ensures.0 ∙ c.before.before.if3.true) in
     simp (
-      sym range.in-range.ensures ∙ not-false range.in-range.result ranged.if1.false,
+      sym range.in_range_lem.ensures ∙ not-false range.in_range_lem.result ranged.if1.false,
       sym begun.begun-sound.ensures ∙ not-false begun.begun-sound.result ordered.before.before.if2.false,
       order.0,
       order.1,
@@ -57,7 +57,7 @@ returns-4 c =
     let begun = c.before.before.before.before in
     let range = begun.before.before in
     simp (
-      sym range.in-range.ensures ∙ not-false range.in-range.result begun.before.if1.false,
+      sym range.in_range_lem.ensures ∙ not-false range.in_range_lem.result begun.before.if1.false,
       sym begun.begun-sound.ensures ∙ not-false begun.begun-sound.result c.before.before.before.if2.false,
       sym c.before.order-sound.ensures.0 ∙ c.if3.false,
       c.if3.false,

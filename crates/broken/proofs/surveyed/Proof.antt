@@ -62,8 +62,8 @@ no_hand : (of : List ℕ) (n : ℕ) (places : List SeatHand) → n ≡ 0 → Cou
 unfolding counted_all flat
 no_hand of n places none = rw none (record { counters = refl; number = refl; few = omega arith })
 
-nine-seats : (c : tie.Start invariant-loop decreases-loop) → length c.args.t.seats ≡ 9
-nine-seats c = simp length-map at c.well-formed.1.0.1.1.1.1.0.1.0.1
+nine_seats_lem : (c : tie.Start invariant-loop decreases-loop) → length c.args.t.seats ≡ 9
+nine_seats_lem c = simp length-map at c.well-formed.1.0.1.1.1.1.0.1.0.1
 
 is-dealt-requires : tie.Need-is-dealt-requires invariant-loop decreases-loop
 is-dealt-requires c κs = search rules
@@ -104,7 +104,7 @@ counted c =
     let at = c.before.before.before.before.before in
     let start = at.before.before.before.before.before.before in
     let t = start.args.t in
-    let full = nine-seats start in
+    let full = nine_seats_lem start in
     let below : at.loop.i < length t.seats = omega arith in
     let s = get_or t.seats at.loop.i missing_seat in
     ⊎_elim (λ w. counted-at w.3 w.4 (counted_next seat_cards t.seats 80 at.loop.i missing_seat below at.loop.invariant.4 w.2.ensures))
@@ -176,7 +176,7 @@ loop-again c =
     let card = at.before.before.before.up in
     let dealt = at.before.before.before.before.is-dealt in
     let i = at.loop.i in
-    let full = nine-seats start in
+    let full = nine_seats_lem start in
     let one = joined met in
     let m = met.if2.one.sums in (
       omega arith,
@@ -193,7 +193,7 @@ returns-2 c =
     let t = start.args.t in
     let card = at.before.before.before.up in
     let dealt = at.before.before.before.before.is-dealt in
-    let full = nine-seats start in
+    let full = nine_seats_lem start in
     let nine : at.loop.i ≡ 9 = omega arith in
     let all = take_all at.loop.i t.seats (omega arith) in
     record {

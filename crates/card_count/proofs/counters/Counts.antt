@@ -81,7 +81,7 @@ counted-most of xs b = go (dec_le (length of) b)
 -- what some cards leave of the room
 pub room_after : (of xs : List ℕ) (n m : ℕ) → Room of n → length xs + m ≤ n → Room (counted_all of xs) m
 room_after of xs n m room h =
-    record { each_byte = length-counted of xs ∙ room.each-byte; fits = λ b. omega (arith, counted-most of xs b, room.fits b) }
+    record { each_byte = length-counted of xs ∙ room.each_byte; fits = λ b. omega (arith, counted-most of xs b, room.fits b) }
 
 -- what the first i cards leave of the room for all
 pub have_room : {of₀ of xs : List ℕ} {i n : ℕ} → Have of₀ xs i of → Room of₀ (length xs) → i + n ≤ length xs → Room of n
@@ -101,4 +101,4 @@ unfolding no_counts
 room-zeros n h = record { each_byte = length-replicate {A = ℕ} 256 0; fits = λ b. omega (arith, zeros 256 b) }
 
 pub counted_zeros : (xs : List ℕ) (b : ℕ) → b < 256 → get_or (counted_all no_counts xs) b 0 ≡ count_of b xs
-counted_zeros xs b h = omega (arith, all-counted-at no_counts xs b (rw (room-zeros 0 (omega arith)).each-byte h), (room-zeros 65535 (omega arith)).fits b)
+counted_zeros xs b h = omega (arith, all-counted-at no_counts xs b (rw (room-zeros 0 (omega arith)).each_byte h), (room-zeros 65535 (omega arith)).fits b)

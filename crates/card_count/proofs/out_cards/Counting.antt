@@ -6,7 +6,7 @@ use native.Mathlib.Nat.{mul-add, mul-one}
 use native.Mathlib.Omega.{arith}
 use lib.ListN.{length, get_or, take, length-append, length-take}
 use Rattle.lists.specs.Flat.{flat}
-use Rattle.lists.proofs.Flats.{flat_next}
+use Rattle.lists.proofs.Flats.{flat-next}
 use Rattle.lists.proofs.Takes.{take_clamped}
 use Rattle.card_count.specs.Aids.Counters.{counted_all, Room}
 use Rattle.card_count.proofs.counters.Counts.{counted-append, room_after}
@@ -14,7 +14,7 @@ use Rattle.card_count.specs.Aids.Counted.{Counted}
 
 -- room for fewer cards, and what counted cards leave of it
 room-less : {a : List ℕ} {n : ℕ} (m : ℕ) → Room a n → m ≤ n → Room a m
-room-less m room h = record { each_byte = room.each-byte; fits = λ b. omega (arith, room.fits b) }
+room-less m room h = record { each_byte = room.each_byte; fits = λ b. omega (arith, room.fits b) }
 
 pub counted-room : {a b xs : List ℕ} {k most : ℕ} (n m : ℕ) → Room a n → Counted a b xs k most → most + m ≤ n → Room b m
 counted-room {a} {b} {xs} n m room e h = rw e.counters (room_after a xs n m room (omega arith))
@@ -58,4 +58,4 @@ module _ {A : Type 0} (f : A → List ℕ) (xs : List A) (most : ℕ) where
   -- one more part of several, each within the same bound
   pub counted_next : {a b c : List ℕ} {n k : ℕ} (i : ℕ) (d : A) → i < length xs → Counted a b (flat f (take i xs)) n (most * i) → Counted b c (f (get_or xs i d)) k most
       → Counted a c (flat f (take (i + 1) xs)) (n + k) (most * (i + 1))
-  counted_next i d h e g = rw (flat_next f xs i d, mul-add, mul-one) (counted_join e g)
+  counted_next i d h e g = rw (flat-next f xs i d, mul-add, mul-one) (counted_join e g)

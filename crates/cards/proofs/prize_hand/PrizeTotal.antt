@@ -41,12 +41,12 @@ some_of r (card ∷ cards) e = go (has_rank r card) refl (some_of r cards) e
     go true here rec t = simp here (omega arith)
     go false here rec t = omega (arith, rec t)
 
-all_of : (r : ℕ) (cards : List ℕ) → all_of (has_rank r) cards ≡ true → of_rank r cards ≡ length cards
+all_of_lem : (r : ℕ) (cards : List ℕ) → all_of (has_rank r) cards ≡ true → of_rank r cards ≡ length cards
 unfolding of_rank all_of sum_of
-all_of r [] e = refl
-all_of r (card ∷ cards) e =
+all_of_lem r [] e = refl
+all_of_lem r (card ∷ cards) e =
     let (here, later) = (and-eq-true_iff (has_rank r card) (all_of (has_rank r) cards)).0 e in
-    simp here (omega (arith, all_of r cards later))
+    simp here (omega (arith, all_of_lem r cards later))
 
 prize-low_sum : (cards : List ℕ) → is_prize_hand cards ≡ true → 21 ≤ low_sum cards
 unfolding is_prize_hand all_sevens suited_six_seven_eight
@@ -56,7 +56,7 @@ prize-low_sum cards e = go (all_sevens cards) refl
     three = eqb-true (length cards) 3 ((and-eq-true_iff (eqb (length cards) 3) (all_sevens cards || suited_six_seven_eight cards)).0 e).0
 
     go : (b : Bool) → all_sevens cards ≡ b → 21 ≤ low_sum cards
-    go true sevens = omega (arith, three, all_of 6 cards sevens, low_sum_for cards)
+    go true sevens = omega (arith, three, all_of_lem 6 cards sevens, low_sum_for cards)
     go false other =
         let suited = ((and-eq-true_iff (eqb (length cards) 3) (all_sevens cards || suited_six_seven_eight cards)).0 e).1 in
         let ranks = ((and-eq-true_iff (any_of (has_rank 5) cards && any_of (has_rank 6) cards && any_of (has_rank 7) cards) (all_of (λ card. eqb (suit_of card) (suit_of (get_or cards 0 0))) cards)).0 (simp other at suited)).0 in
@@ -72,6 +72,6 @@ no_prize_below_21 cards below = go (is_prize_hand cards) refl
     go false e = e
 
 -- two cards are no prize hand
-pub no_prize_of_two : (cards : List ℕ) → length cards ≡ 2 → is_prize_hand cards ≡ false
+pub no_prize_of-two : (cards : List ℕ) → length cards ≡ 2 → is_prize_hand cards ≡ false
 unfolding is_prize_hand
-no_prize_of_two cards two = simp (ne_eqb (length cards) 3 (λ three. omega arith))
+no_prize_of-two cards two = simp (ne_eqb (length cards) 3 (λ three. omega arith))

@@ -5,7 +5,7 @@ use Rattle.table.proofs.Facts.{unbroken, decks_416}
 use Rattle.answer.specs.Reply.{given_of}
 use Rattle.answer.proofs.reply.Laws.{refused-step, accepted-step}
 use Rattle.close_spec.specs.Close.{close_conditions, close_effect, close_shown}
-use Rattle.close.proofs.Numbers.{early_refused, last_refused, all-accepted, closes}
+use Rattle.close.proofs.Numbers.{early_refused, last_refused, all_accepted, closes}
 use Rattle.close.proofs.close.Statement.{statement}
 use Rattle.close.proofs.close.Tie as tie
 
@@ -67,7 +67,7 @@ returns-3 c =
     let start = early.before.args in
     let t = start.t in
     accepted-step start.names.now start.nets.now (close_conditions t) (close_effect t) t (close_shown t) (given_of c.settled.result _ _) c.settled.ensures
-    (all-accepted t early.early-number.result early.early-number.ensures past.if1.false drawn.bank-at-close.result drawn.bank-at-close.ensures asked.must-draw.result asked.must-draw.ensures stood.if2.false)
+    (all_accepted t early.early-number.result early.early-number.ensures past.if1.false drawn.bank-at-close.result drawn.bank-at-close.ensures asked.must-draw.result asked.must-draw.ensures stood.if2.false)
 
 pub close_spec : {M : Type 1} → statement M
 close_spec =

@@ -39,7 +39,7 @@ module _ {names names-then : List ℕ} {nets nets-then : List ℤ} {at behind : 
   lines_more a b all first second e =
       rw (← e)
       (record {
-        names_are = run_more name_of names names-then _ at behind a b first.names-are first.behind-is second.names-are;
-        nets_are = run_more (λ l. l.net) nets nets-then _ at behind a b first.nets-are first.behind-is second.nets-are;
-        behind_is = omega (arith, first.behind-is, second.behind-is, length-append a b);
+        names_are = run_more name_of names names-then _ at behind a b first.names_are first.behind_is second.names_are;
+        nets_are = run_more (λ l. l.net) nets nets-then _ at behind a b first.nets_are first.behind_is second.nets_are;
+        behind_is = omega (arith, first.behind_is, second.behind_is, length-append a b);
       })

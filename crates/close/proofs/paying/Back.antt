@@ -28,9 +28,9 @@ use Rattle.close_spec.proofs.Back.{nothing_back}
 pub hand-most : (o : Options) (bank : Score) (S : ℕ) (h : Played) → (hand_pay o bank S h).back ≤ 4 * S
 hand-most o bank S h = omega (arith, gain_most o bank S h, (wager_bounds S h).1)
 
-pub insurance-most : (bank : Score) (I : ℕ) (p : Pay) → p ≡ insurance_pay bank I → p.back ≤ 3 * I
+pub insurance_most : (bank : Score) (I : ℕ) (p : Pay) → p ≡ insurance_pay bank I → p.back ≤ 3 * I
 unfolding insurance_pay
-insurance-most bank I p e = rw e (cond_most bank.natural (omega arith) (omega arith))
+insurance_most bank I p e = rw e (cond_most bank.natural (omega arith) (omega arith))
 
 pub side-most : (k n : ℕ) (first : List ℕ) → (side_pay k n first).back ≤ 5001 * n
 unfolding side_pay

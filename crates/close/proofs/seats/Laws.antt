@@ -39,7 +39,7 @@ passed_over o (Paid bank) s m same empty = let (none, bets) = nothing_facts s (r
 pub endable : (t : Table) → Sound t → length t.seats ≡ 9 → (i : ℕ) → i < 9 → (p : ℕ) → p < 3 → Endable t.options (guest_of t i p)
 endable t sound nine i h p l =
     record {
-      within = ((sound.seats i h).guests p l).prizes-back;
+      within = ((sound.seats i h).guests p l).prizes_back;
       limit =
           omega (
             arith,

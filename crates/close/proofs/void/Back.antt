@@ -32,7 +32,7 @@ module _ (t : Table) (sound : Sound t) where
       )
     where
       within : (i : ℕ) → i < 9 → (p : ℕ) → p < 3 → prizes t.options (guest_of t i p) ≤ purse (guest_of t i p) + laid (guest_of t i p)
-      within i h p l = ((sound.seats i h).guests p l).prizes-back
+      within i h p l = ((sound.seats i h).guests p l).prizes_back
 
   pub drawn-fits : t.shoe.drawn ≤ 416
   drawn-fits = omega (arith, sound.drawn, decks_416 t sound)

@@ -16,7 +16,7 @@ use Rattle.rules.proofs.seat_hand.Places.{many_hands}
 use Rattle.rules.specs.Waits.{waits}
 use Rattle.rules.specs.Turn.{seat_waits, waiting_place}
 use Rattle.call.specs.Refusal.{Condition, first}
-use Rattle.call.proofs.Refusals.{first_before, first-behind}
+use Rattle.call.proofs.Refusals.{first-before, first-behind}
 use Rattle.table.specs.declared.Seat.{Seat}
 use Rattle.table.specs.declared.Table.{Table}
 use Rattle.table.specs.Seat.{hands}
@@ -32,7 +32,7 @@ in_turn_lem t j a = record { nine = a.acting.nine; waits = a.waits }
 
 module _ (t : Table) (j p n : ℕ) (e : n ≡ first (turn_conditions t j p)) where
   pub turn_refuses : (n ≡ 0 → ⊥) → (rest : List Condition) → n ≡ first (turn_conditions t j p ++ rest)
-  turn_refuses some rest = sym (first_before (turn_conditions t j p) rest n (sym e) some)
+  turn_refuses some rest = sym (first-before (turn_conditions t j p) rest n (sym e) some)
 
   module _ (none : n ≡ 0) where
     pub turn-passes : (rest : List Condition) → first (turn_conditions t j p ++ rest) ≡ first rest

@@ -10,7 +10,7 @@ use Rattle.rules.specs.declared.seat_hand.SeatHand.{SeatHand}
 use Rattle.rules.specs.SeatHand.{Played, played_of}
 use Rattle.rules.specs.Turn.{waiting_place}
 use Rattle.payment.specs.Prize.{prize, most_prize}
-use Rattle.payment.proofs.Bounds.{prize-most}
+use Rattle.payment.proofs.Bounds.{prize_most}
 use Rattle.table.specs.declared.Money.{Money}
 use Rattle.table.specs.declared.Seat.{Seat}
 use Rattle.table.specs.declared.Table.{Table}
@@ -41,7 +41,7 @@ others_are f ms two is_one is-other = rw (is_one, is-other) (both f ms two)
 
 -- the prizes of a hand are at most one for each guest
 pub all_most : (o : Options) (h : Played) (s : Seat) → over_guests (λ g. prize o (stake g) h) s ≤ one_prize_each s
-all_most o h s = omega (arith, prize-most o (stake (guest_at s 0)) h, prize-most o (stake (guest_at s 1)) h, prize-most o (stake (guest_at s 2)) h)
+all_most o h s = omega (arith, prize_most o (stake (guest_at s 0)) h, prize_most o (stake (guest_at s 1)) h, prize_most o (stake (guest_at s 2)) h)
 
 -- the seat as the code makes it
 pub seat_is : (o : Options) (card times : ℕ) (s : Seat) (h : SeatHand) {p : ℕ} {seated : Money} {others : List Money} {r : Seat}
@@ -68,7 +68,7 @@ module _ (t : Table) (j times : ℕ) where
         };
         tray_has = covers;
         tray_fits = omega (arith, sound.money);
-        card-left = omega (arith, decks_416 t sound);
+        card_left = omega (arith, decks_416 t sound);
       }
 
   pub next_is : (code hand : ℕ) {card ahead won : ℕ} {s seat : Seat} {h : SeatHand}

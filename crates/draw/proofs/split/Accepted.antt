@@ -14,11 +14,11 @@ pub splits : (t : Table) (j : ℕ) → SplitAccepted t j → Splits t j
 splits t j a =
     let turn = in_turn_lem t j a.turn in
     let sound = unbroken t a.turn.acting.unbroken in
-    let most = (sound_options t sound).hands-most in
+    let most = (sound_options t sound).hands_most in
     record {
       turn = turn;
       pays = record { waits = turn.waits; room = most_many t.options (is_dealt t) (up t) j (seat_at t j) most (sound.seats j turn.nine); enough = a.enough };
-      two-left = omega (arith, a.left, decks_416 t sound);
+      two_left = omega (arith, a.left, decks_416 t sound);
     }
 
 -- the same of the seat and the up card as the code has read them

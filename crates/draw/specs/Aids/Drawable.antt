@@ -27,4 +27,4 @@ pub record Drawable (t : Table) (j times : ℕ) : Type 0 where
   pub guests : AllAfford times (seat_at t j)
   pub tray_has : one_prize_each (seat_at t j) ≤ t.tray
   pub tray_fits : t.tray ≤ most_money
-  pub card-left : t.shoe.drawn + 1 ≤ 416
+  pub card_left : t.shoe.drawn + 1 ≤ 416

@@ -37,4 +37,4 @@ pub record Pays (o : Options) (card : ℕ) (s : Seat) : Type 0 where
 pub record Splits (t : Table) (j : ℕ) : Type 0 where
   pub turn : InTurn t j
   pub pays : Pays t.options (up t) (seat_at t j)
-  pub two-left : t.shoe.drawn + 2 ≤ 416
+  pub two_left : t.shoe.drawn + 2 ≤ 416

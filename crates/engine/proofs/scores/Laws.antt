@@ -8,7 +8,7 @@ use native.Mathlib.Omega.{arith}
 use lib.ListN.{length, take, get_or, length-map, length-append}
 use lib.Seq.{take-suc}
 use Rattle.lists.specs.Tests.{those}
-use Rattle.lists.proofs.Numbered.{those_append}
+use Rattle.lists.proofs.Numbered.{those-append}
 use Rattle.cards.specs.declared.score.HandScore.{HandScore}
 use Rattle.table.specs.declared.Seat.{Seat}
 use Rattle.table.specs.Seat.{missing_seat, is_staked}
@@ -25,7 +25,7 @@ abbrev pub scores_to : List Seat → ℕ → List HandScore
 scores_to ss i = map (λ s. place_score s 0) (staked_to ss i)
 
 staked-next : (ss : List Seat) (i : ℕ) → i < length ss → staked_to ss (i + 1) ≡ staked_to ss i ++ those is_staked (get_or ss i missing_seat ∷ [])
-staked-next ss i h = rw (add-one, take-suc ss i missing_seat h) (those_append is_staked (take i ss) (get_or ss i missing_seat ∷ []))
+staked-next ss i h = rw (add-one, take-suc ss i missing_seat h) (those-append is_staked (take i ss) (get_or ss i missing_seat ∷ []))
 
 staked_more : (ss : List Seat) (i : ℕ) → i < length ss → is_staked (get_or ss i missing_seat) ≡ true → staked_to ss (i + 1) ≡ staked_to ss i ++ (get_or ss i missing_seat ∷ [])
 unfolding those

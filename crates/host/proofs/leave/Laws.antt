@@ -9,7 +9,7 @@ use borrow.Author.Tests.{not-false}
 use Rattle.lists.specs.Tests.{all_of}
 use Rattle.lists.proofs.Tests.{first_inside, leb_not}
 use Rattle.call.specs.Refusal.{Condition, asked, first}
-use Rattle.call.proofs.Refusals.{first_before, first-behind, none_hold}
+use Rattle.call.proofs.Refusals.{first-before, first-behind, none_hold}
 use Rattle.table.specs.declared.Money.{Money}
 use Rattle.table.specs.Seat.{is_staked}
 use Rattle.table.specs.Table.{guest_of, is_dealt}
@@ -50,7 +50,7 @@ module _ (h : Hosted) (card place : ℕ) (long : length h.cards ≡ 27) (whole :
 
     pub leave_refuses : (n ≡ 0 → ⊥) → n ≡ first (leave_conditions h card)
     unfolding leave_conditions
-    leave_refuses some = sym (first_before early late n (sym early-is) some)
+    leave_refuses some = sym (first-before early late n (sym early-is) some)
 
     pub leave-passes : n ≡ 0 → first (leave_conditions h card) ≡ first late
     unfolding leave_conditions all_of

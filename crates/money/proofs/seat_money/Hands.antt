@@ -34,8 +34,8 @@ module _ (f : Played → ℕ) (s : SeatHands) (full : length s.places ≡ 4) whe
   pub every_hand : (n : ℕ) → min s.many 4 ≤ n → sum_of f (take n (hands_of s)) ≡ sum_of f (hands_of s)
   every_hand n h = ap (sum_of f) (take_all n (hands_of s) (omega (arith, many_hands s full)))
 
-  pub hands-most : (k : ℕ) → ((h : Played) → f h ≤ k) → sum_of f (hands_of s) ≤ 4 * k
-  hands-most k most =
+  pub hands_most : (k : ℕ) → ((h : Played) → f h ≤ k) → sum_of f (hands_of s) ≤ 4 * k
+  hands_most k most =
       let few : length (hands_of s) ≤ 4 = omega (arith, many_hands s full) in
       omega (arith, mul-le-mul_left k few, sum-most f k most (hands_of s))
 
@@ -49,7 +49,7 @@ module _ (s : Seat) (full : length s.hands.places ≡ 4) where
   laid-most =
       let few : cond (eqb (length (hands s)) 0) (stake s) (sum_of (wager (stake s)) (hands s) + insurance s) ≤ 8 * stake s + insurance s =
       cond_most (eqb (length (hands s)) 0) (omega arith)
-      (omega (arith, hands-most (wager (stake s)) s.hands full (2 * stake s) (λ h. (wager_bounds (stake s) h).1))) in
+      (omega (arith, hands_most (wager (stake s)) s.hands full (2 * stake s) (λ h. (wager_bounds (stake s) h).1))) in
       omega (arith, few)
 
   pub prizes-most : (o : Options) → prizes o s ≤ 4 * most_prize (stake s)

@@ -59,8 +59,8 @@ pub fits_in_lem : (k n : ℕ) (m : Sums) → k ≤ n → SumsFit k m → SumsFit
 fits_in_lem k n m h few = record { stakes = omega (arith, few.stakes); laid = omega (arith, few.laid); prizes = omega (arith, few.prizes); cover = omega (arith, few.cover); purses = omega (arith, few.purses) }
 
 -- a seat has three
-pub seat-fits : (o : Options) (s : Seat) → SumsFit 1 (guest_sums o (guest_at s 0)) → SumsFit 1 (guest_sums o (guest_at s 1)) → SumsFit 1 (guest_sums o (guest_at s 2)) → SumsFit 3 (seat_sums o s)
-seat-fits o s one two three =
+pub seat_fits : (o : Options) (s : Seat) → SumsFit 1 (guest_sums o (guest_at s 0)) → SumsFit 1 (guest_sums o (guest_at s 1)) → SumsFit 1 (guest_sums o (guest_at s 2)) → SumsFit 3 (seat_sums o s)
+seat_fits o s one two three =
     within_more 2 1 (plus_sums (guest_sums o (guest_at s 0)) (guest_sums o (guest_at s 1))) (guest_sums o (guest_at s 2)) (seat_sums o s)
     (within_more 1 1 (guest_sums o (guest_at s 0)) (guest_sums o (guest_at s 1)) _ one two refl)
     three refl
@@ -72,9 +72,9 @@ three_more i a b r few three e = fits_in_lem (3 * i + 3) (3 * (i + 1)) r (omega 
 pub nothing_summed : (o : Options) (s : Seat) → purse s ≡ 0 → NoBets s → guest_sums o s ≡ no_sums
 nothing_summed o s none bets =
     let cover : seat_cover s ≡ 0 =
-    omega (arith, bets.no-stake, bets.no_sides 0 (omega arith), bets.no_sides 1 (omega arith), bets.no_sides 2 (omega arith), bets.no_sides 3 (omega arith)) in
+    omega (arith, bets.no_stake_lem, bets.no_sides 0 (omega arith), bets.no_sides 1 (omega arith), bets.no_sides 2 (omega arith), bets.no_sides 3 (omega arith)) in
     let cut : capped (purse s) ≡ 0 = omega (arith, none) in
-    λ i. make_sums (bets.no-stake i) (nothing-laid s bets i) (unstaked_prizes o s bets.no-stake i) (cover i) (cut i)
+    λ i. make_sums (bets.no_stake_lem i) (nothing-laid s bets i) (unstaked_prizes o s bets.no_stake_lem i) (cover i) (cut i)
 
 pub none_more : (a : Sums) → plus_sums a no_sums ≡ a
 none_more a = rw (add-zero a.stakes, add-zero a.laid, add-zero a.prizes, add-zero a.cover, add-zero a.purses)
@@ -107,7 +107,7 @@ seat-added o s all one two three (first, fits) (second, fits-2) (third, fits-3) 
       third
           ∙ ap (λ (m : Sums). plus_sums m c) (second ∙ ap (λ (m : Sums). plus_sums m b) (first ∙ ap (plus_sums all) seated) ∙ plus_assoc all a b)
           ∙ plus_assoc all (plus_sums a b) c,
-      seat-fits o s (subst (SumsFit 1) seated fits) fits-2 fits-3,
+      seat_fits o s (subst (SumsFit 1) seated fits) fits-2 fits-3,
     )
 
 -- and the seated guest alone, where nobody bets beside

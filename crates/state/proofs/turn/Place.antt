@@ -10,7 +10,7 @@ use Rattle.table.specs.Seat.{hands}
 use Rattle.table.specs.Table.{seat_at, seats_hands, up}
 use Rattle.rules.specs.Turn.{waiting_place}
 use Rattle.state.specs.Turn.{seat_in_turn}
-use Rattle.state.proofs.turn.Hands.{hands_of_lem, nine-seats}
+use Rattle.state.proofs.turn.Hands.{hands_of_lem, nine_seats_lem}
 use Rattle.state.specs.Turn.{place_in_turn}
 
 module _ (t : Table) (i : ℕ) (seat : i ≡ seat_in_turn t) where
@@ -18,7 +18,7 @@ module _ (t : Table) (i : ℕ) (seat : i ≡ seat_in_turn t) where
   pub place_past : length t.seats ≡ 9 → 9 ≤ i → 0 ≡ place_in_turn t
   unfolding first_place
   place_past full h =
-      sym (ap (waiting_place t.options (up t)) (ap (λ (k : ℕ). get_or (seats_hands t) k []) (sym seat) ∙ get_or-eq_default (seats_hands t) [] (omega (arith, nine-seats t full))))
+      sym (ap (waiting_place t.options (up t)) (ap (λ (k : ℕ). get_or (seats_hands t) k []) (sym seat) ∙ get_or-eq_default (seats_hands t) [] (omega (arith, nine_seats_lem t full))))
 
   pub place_here : (card : ℕ) → card ≡ up t → waiting_place t.options card (hands (seat_at t i)) ≡ place_in_turn t
   place_here card e =

@@ -30,7 +30,7 @@ pub record SoundHand (o : Options) (up many : ℕ) (h : SeatHand) : Type 0 where
 -- An insurance that lies there.
 pub record Insured (o : Options) (in_round : Bool) (up : ℕ) (s : Seat) : Type 0 where
   pub in_round_lem : in_round ≡ true
-  pub ace-up : is_ace up ≡ true
+  pub ace_up : is_ace up ≡ true
   pub staked : 0 < stake s
   pub permitted : insurance_permitted o (stake s) (insurance s) ≡ true
 
@@ -55,7 +55,7 @@ pub record HoldsNothing (s : Seat) : Type 0 where
 -- A guest of the seat of number i; `inRound` is whether a round is dealt, `up` the up card.
 pub record SoundGuest (o : Options) (in_round : Bool) (up i : ℕ) (s : Seat) : Type 0 where
   pub beyond : o.seats ≤ i → HoldsNothing s
-  pub stake-fits : 0 < stake s → stake_permitted o (stake s) ≡ true
+  pub stake_fits : 0 < stake s → stake_permitted o (stake s) ≡ true
   pub insured : 0 < insurance s → Insured o in_round up s
   pub sides_fit : (k : ℕ) → k < 4 → 0 < get_or (sides s) k 0 → (0 < stake s) × (get_or (sides s) k 0 ≤ most_side)
   pub prizes_back : prizes o s ≤ purse s + laid s
@@ -70,7 +70,7 @@ pub record SoundSeat (o : Options) (in_round : Bool) (up i : ℕ) (s : Seat) : T
 pub record Sound (t : Table) : Type 0 where
   pub options : in_range t.options ≡ true
   pub begun : t.shoe.begun ≤ 1
-  pub begun-drawn : 0 < t.shoe.drawn → t.shoe.begun ≡ 1
+  pub begun_drawn : 0 < t.shoe.drawn → t.shoe.begun ≡ 1
   pub valid : valid_order t.options.decks (table_order t) ≡ true
   pub drawn : t.shoe.drawn ≤ 52 * t.options.decks
   pub discarded : t.shoe.discarded ≤ 416

@@ -14,7 +14,7 @@ use Rattle.rules.specs.SeatHand.{played_of, hands_of}
 use Rattle.rules.proofs.seat_hand.Places.{none}
 use Rattle.payment.specs.Wager.{wager}
 use Rattle.payment.specs.Prize.{prize, most_prize}
-use Rattle.payment.proofs.Bounds.{wager_bounds, prize-most}
+use Rattle.payment.proofs.Bounds.{wager_bounds, prize_most}
 use Rattle.table.specs.Broken.{sound_hand}
 use Rattle.money.proofs.seat_money.Hands.{next-hand, every_hand}
 use Rattle.broken.proofs.hand.looked_at.Statement.{statement}
@@ -64,7 +64,7 @@ add-prizes : tie.Need-overflow-add-prizes invariant-loop decreases-loop
 add-prizes c =
     let at = c.before.before.before.before.before in
     let a = at.before.before.args in
-    omega (arith, prize-most a.o a.stake (played_of (get_or a.t4.places at.loop.i none)))
+    omega (arith, prize_most a.o a.stake (played_of (get_or a.t4.places at.loop.i none)))
 
 add-i : tie.Need-overflow-add-i invariant-loop decreases-loop
 add-i c = search rules
@@ -82,7 +82,7 @@ loop-again c =
     let full : length s.places ≡ 4 = simp length-map at start.well-formed.1.1.1.0.1.1.0.1.0.1 in
     let h = played_of (get_or s.places i none) in
     let more = (wager_bounds a.stake h).1 in
-    let most = prize-most a.o a.stake h in (
+    let most = prize_most a.o a.stake h in (
       omega arith,
       rw (add-one, all_take (sound_hand a.o a.up s.many) s.places i none (omega arith)) (ap₂ ◌&&◌ at.loop.invariant.1 c.before.before.sound-hand.ensures),
       rw (next-hand (wager a.stake) s full i (omega arith)) (omega arith),

@@ -9,11 +9,11 @@ use Rattle.broken.proofs.seat.sound_hands.Tie as tie
 
 returns : tie.Need-returns
 unfolding sound_hands
-returns c = λ up same. simp (c.before.if1.true, not-true c.before.before.before.before.before.args.in-round c.if2.true)
+returns c = λ up same. simp (c.before.if1.true, not-true c.before.before.before.before.before.args.in_round_lem c.if2.true)
 
 returns-2 : tie.Need-returns-2
 unfolding sound_hands
-returns-2 c = λ up same. simp (c.before.before.if1.true, not-false c.before.before.before.before.before.before.args.in-round c.before.if2.false, or-false)
+returns-2 c = λ up same. simp (c.before.before.if1.true, not-false c.before.before.before.before.before.before.args.in_round_lem c.before.if2.false, or-false)
 
 returns-3 : tie.Need-returns-3
 unfolding sound_hands

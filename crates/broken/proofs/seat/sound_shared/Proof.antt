@@ -13,10 +13,10 @@ sound-hands-requires c κs = search rules
 returns : tie.Need-returns
 returns c =
     let start = c.before.before.before in
-    simp (sym c.before.before.seated-first.ensures ∙ c.before.if1.true, c.sound-hands.ensures start.args.up start.requires.each)
+    simp (sym c.before.before.seated_first_lem.ensures ∙ c.before.if1.true, c.sound-hands.ensures start.args.up start.requires.each)
 
 returns-2 : tie.Need-returns-2
-returns-2 c = simp (sym c.before.seated-first.ensures ∙ c.if1.false, c.if1.false)
+returns-2 c = simp (sym c.before.seated_first_lem.ensures ∙ c.if1.false, c.if1.false)
 
 pub sound-shared-spec : {M : Type 1} → statement M
 sound-shared-spec = tie.close (tie.spec seated-first-requires sound-hands-requires returns returns-2)

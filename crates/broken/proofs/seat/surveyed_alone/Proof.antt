@@ -28,15 +28,15 @@ sound-alone-requires : tie.Need-sound-alone-requires
 sound-alone-requires c κs =
     let a = c.before.args in
     let look = c.before.requires.1 in
-    (by_look a.o a.in-round a.up a.i a.s a.look c.played-sums.result look c.played-sums.ensures, look.each)
+    (by_look a.o a.in_round_lem a.up a.i a.s a.look c.played-sums.result look c.played-sums.ensures, look.each)
 
 returns : tie.Need-returns
 returns c =
     let start = c.before.before in
     let a = start.args in
     let sums = c.before.played-sums in
-    lone-seat a.o a.in-round a.up a.i a.s (record { sound = c.sound-alone.result; sums = sums.result }) start.requires.0 c.sound-alone.ensures
-    (by_look a.o a.in-round a.up a.i a.s a.look sums.result start.requires.1 sums.ensures) (within start)
+    lone-seat a.o a.in_round_lem a.up a.i a.s (record { sound = c.sound-alone.result; sums = sums.result }) start.requires.0 c.sound-alone.ensures
+    (by_look a.o a.in_round_lem a.up a.i a.s a.look sums.result start.requires.1 sums.ensures) (within start)
 
 pub surveyed-alone-spec : {M : Type 1} → statement M
 surveyed-alone-spec = tie.close (tie.spec played-sums-requires sound-alone-requires returns)

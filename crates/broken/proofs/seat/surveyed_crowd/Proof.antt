@@ -14,7 +14,7 @@ returns c =
     let all = c.before.before in
     let a = all.before.args in
     let guests = all.surveyed-guests in
-    guest_fails a.o a.in-round a.up a.i a.s (seat_sums a.o a.s) guests.result guests.ensures (not-true guests.result.sound c.if1.true)
+    guest_fails a.o a.in_round_lem a.up a.i a.s (seat_sums a.o a.s) guests.result guests.ensures (not-true guests.result.sound c.if1.true)
 
 sound-shared-requires : tie.Need-sound-shared-requires
 sound-shared-requires c κs = search rules
@@ -24,7 +24,7 @@ returns-2 c =
     let all = c.before.before.before.before in
     let a = all.before.args in
     let guests = all.surveyed-guests in
-    guests_pass a.o a.in-round a.up a.i a.s (seat_sums a.o a.s) guests.result c.sound-shared.result guests.ensures
+    guests_pass a.o a.in_round_lem a.up a.i a.s (seat_sums a.o a.s) guests.result c.sound-shared.result guests.ensures
     (not-false guests.result.sound c.before.before.if1.false) c.sound-shared.ensures
 
 pub surveyed-crowd-spec : {M : Type 1} → statement M

@@ -14,7 +14,7 @@ sound-guest-requires c κs = c.guest-sums.ensures.0
 returns : tie.Need-returns
 returns c =
     let sums = c.before.guest-sums.ensures in
-    record { sound = c.sound-guest.ensures; sums = sums.0; fits = subst (SumsFit 1) sums.0 sums.1 }
+    record { sound = c.sound_guest_lem.ensures; sums = sums.0; fits = subst (SumsFit 1) sums.0 sums.1 }
 
 pub surveyed-guest-spec : {M : Type 1} → statement M
 surveyed-guest-spec = tie.close (tie.spec guest-sums-requires sound-guest-requires returns)

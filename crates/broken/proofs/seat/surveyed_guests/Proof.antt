@@ -38,7 +38,7 @@ returns c =
     let first = c.before.before.before.before.surveyed-guest in
     let second = c.before.before.before.surveyed-other in
     let third = c.before.before.surveyed-other2 in
-    three a.o a.in-round a.up a.i a.s first.result second.result third.result c.before.together.result c.together2.result
+    three a.o a.in_round_lem a.up a.i a.s first.result second.result third.result c.before.together.result c.together2.result
     first.ensures second.ensures third.ensures c.before.together.ensures c.together2.ensures
 
 pub surveyed-guests-spec : {M : Type 1} → statement M

@@ -17,8 +17,8 @@ returns : tie.Need-returns
 returns c =
     let start = c.before.before.before.before.before in
     let a = start.args in
-    resting a.o a.in-round a.up a.i a.s (c.before.before.before.before.at_rest.ensures c.before.before.before.if1.true) (record { sound = c.before.purse-fits.result; sums = c.purse-sums.result })
-    start.requires.0 c.before.purse-fits.ensures c.purse-sums.ensures
+    resting a.o a.in_round_lem a.up a.i a.s (c.before.before.before.before.at_rest.ensures c.before.before.before.if1.true) (record { sound = c.before.purse_fits.result; sums = c.purse-sums.result })
+    start.requires.0 c.before.purse_fits.ensures c.purse-sums.ensures
 
 surveyed-alone-requires : tie.Need-surveyed-alone-requires
 surveyed-alone-requires c κs = search rules

@@ -28,7 +28,7 @@ returns c =
     let a = start.args in
     let guest = c.before.before.before.before.before.guest-at in
     let (none, bets) = nothing_facts guest.result (sym c.before.before.before.no-money.ensures ∙ c.before.before.if1.true) in
-    empty-surveyed a.o a.in-round a.up a.i guest.result (guest_at a.s a.p) c.before.sound-number.result c.no-sums.result
+    empty-surveyed a.o a.in_round_lem a.up a.i guest.result (guest_at a.s a.p) c.before.sound-number.result c.no-sums.result
     guest.ensures none bets c.before.sound-number.ensures c.no-sums.ensures
 
 surveyed-guest-requires : tie.Need-surveyed-guest-requires
@@ -38,7 +38,7 @@ returns-2 : tie.Need-returns-2
 returns-2 c =
     let a = c.before.before.before.before.before.args in
     let guest = c.before.before.before.before.guest-at in
-    subst (λ (g : Seat). Surveyed (passes a.o a.in-round a.up a.i g) (guest_sums a.o g) 1 c.surveyed-guest.result) guest.ensures c.surveyed-guest.ensures
+    subst (λ (g : Seat). Surveyed (passes a.o a.in_round_lem a.up a.i g) (guest_sums a.o g) 1 c.surveyed-guest.result) guest.ensures c.surveyed-guest.ensures
 
 pub surveyed-other-spec : {M : Type 1} → statement M
 surveyed-other-spec =

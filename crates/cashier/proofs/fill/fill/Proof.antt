@@ -20,7 +20,7 @@ returns c =
 add-with-tray : tie.Need-overflow-add-with-tray
 add-with-tray c =
     let call = c.before.before in
-    record { fits = omega (arith, (fill-accepted call.before.args.t call.before.args.n (sym call.fill-number.ensures ∙ c.before.if1.false)).in-limit) }
+    record { fits = omega (arith, (fill-accepted call.before.args.t call.before.args.n (sym call.fill-number.ensures ∙ c.before.if1.false)).in_limit) }
 
 with-tray-requires : tie.Need-with-tray-requires
 with-tray-requires c κs = search rules

@@ -21,7 +21,7 @@ returns : tie.Need-returns
 unfolding open_conditions first
 returns c =
     let valid = c.before.before in
-    simp (c.asked2.ensures, c.before.asked.ensures, valid.valid-order.ensures, valid.before.in-range.ensures)
+    simp (c.asked2.ensures, c.before.asked.ensures, valid.valid-order.ensures, valid.before.in_range_lem.ensures)
 
 pub open-number-spec : {M : Type 1} → statement M
 open-number-spec = tie.close (tie.spec in-range-requires valid-order-requires asked-requires asked-requires-2 returns)

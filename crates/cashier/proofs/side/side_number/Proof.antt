@@ -7,7 +7,7 @@ use borrow.Author.Tests.{leb-false}
 use borrow.Author.Rules.{rules}
 use Rattle.lists.specs.Tests.{all_of}
 use Rattle.call.specs.Refusal.{Condition, first}
-use Rattle.call.proofs.Refusals.{first_before, first-behind, none_hold}
+use Rattle.call.proofs.Refusals.{first-before, first-behind, none_hold}
 use Rattle.table.specs.declared.Table.{Table}
 use Rattle.answer.specs.Conditions.{between_rounds, seat_conditions, no_position}
 use Rattle.answer.proofs.conditions.Laws.{seat-asked, seat_refuses, seat-passes, seat-nine}
@@ -59,7 +59,7 @@ returns-2 c =
     let kind = c.before in
     let passed = kind.before.before.before.before in
     let call = passed.before.before.before.before.args in
-    sym (seat-passes _ _ _ _ (early passed.before) refl passed.if1.false _ ∙ first_before (naming call.kind call.at.position) _ _ (sym (named kind)) c.if2.true)
+    sym (seat-passes _ _ _ _ (early passed.before) refl passed.if1.false _ ∙ first-before (naming call.kind call.at.position) _ _ (sym (named kind)) c.if2.true)
 
 guest-money-requires : tie.Need-guest-money-requires
 unfolding all_of

@@ -4,7 +4,7 @@ use borrow.Author.Rules.{rules}
 use Rattle.table.specs.Table.{seat_at}
 use Rattle.answer.proofs.moved.Laws.{moved-refused, seat-accepted}
 use Rattle.cashier_spec.specs.Stake.{stake_conditions, stake_effect}
-use Rattle.cashier_spec.proofs.Stake.{StakeAccepted, stake-accepted, stake-fits}
+use Rattle.cashier_spec.proofs.Stake.{StakeAccepted, stake-accepted, stake_fits}
 use Rattle.cashier.proofs.stake.stake.Statement.{statement}
 use Rattle.cashier.proofs.stake.stake.Tie as tie
 
@@ -40,7 +40,7 @@ staked-requires : tie.Need-staked-requires
 staked-requires c κs =
     let passed = c.before in
     let start = passed.before.before in
-    let fits = stake-fits start.args.t start.args.at.seat start.args.at.position start.args.n (sym passed.before.stake-number.ensures ∙ passed.if1.false) in
+    let fits = stake_fits start.args.t start.args.at.seat start.args.at.position start.args.n (sym passed.before.stake-number.ensures ∙ passed.if1.false) in
     (rw (c.guest-money.ensures, seat passed) (asked passed).enough, fits)
 
 with-guest-requires : tie.Need-with-guest-requires

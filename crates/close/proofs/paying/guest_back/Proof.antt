@@ -7,7 +7,7 @@ use lib.ListN.{length, length-map}
 use Rattle.payment.proofs.Pays.{back_of_lem, sides_back}
 use Rattle.table.specs.Seat.{bets_of, sides, first_cards}
 use Rattle.close_spec.specs.Close.{guest_back}
-use Rattle.close.proofs.paying.Back.{insurance-most}
+use Rattle.close.proofs.paying.Back.{insurance_most}
 use Rattle.close.proofs.FirstCards.{first_cards_lem}
 use Rattle.close.proofs.paying.guest_back.Statement.{statement}
 use Rattle.close.proofs.paying.guest_back.Tie as tie
@@ -17,7 +17,7 @@ insured-most c =
     let insured = c.before.before.before.before.before.before in
     let start = insured.before.before.before in
     let a = start.args in
-    omega (arith, insurance-most a.bank a.s.money.insurance insured.insurance-pay.result insured.insurance-pay.ensures, start.well-formed.1.1.0.1.1.0.1.1.1.1.0)
+    omega (arith, insurance_most a.bank a.s.money.insurance insured.insurance-pay.result insured.insurance-pay.ensures, start.well-formed.1.1.0.1.1.0.1.1.1.1.0)
 
 insurance-pay-requires : tie.Need-insurance-pay-requires
 insurance-pay-requires c κs = search rules

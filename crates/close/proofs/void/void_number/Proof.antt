@@ -22,7 +22,7 @@ returns c =
     let start = summed.before in
     let t = start.args.t in
     let nine : length t.seats ≡ 9 = simp length-map at start.well-formed.0.1.1.1.1.0.1.0.1 in
-    let seated = nothing-staked t summed.table-sums.result summed.table-sums.ensures nine (λ i h. ((unbroken t start.requires).seats i h).seated-first) in
+    let seated = nothing-staked t summed.table-sums.result summed.table-sums.ensures nine (λ i h. ((unbroken t start.requires).seats i h).seated_first_lem) in
     simp (c.asked.ensures, start.requires, seated)
 
 pub void-number-spec : {M : Type 1} → statement M

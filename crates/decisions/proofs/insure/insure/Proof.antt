@@ -6,7 +6,7 @@ use Rattle.table.specs.declared.Money.{Money}
 use Rattle.table.specs.declared.Seat.{Seat}
 use Rattle.table.specs.Seat.{guest_at, purse, stake}
 use Rattle.table.specs.Table.{seat_at, guest_of}
-use Rattle.table.proofs.Facts.{insurance-most}
+use Rattle.table.proofs.Facts.{insurance_most}
 use Rattle.answer.proofs.moved.Laws.{moved-refused, seat-accepted}
 use Rattle.decisions_spec.specs.Insure.{insure_conditions, insure_effect}
 use Rattle.decisions_spec.proofs.Insure.{InsureAccepted, insure-accepted}
@@ -49,8 +49,8 @@ insured-requires c κs =
     let g = guest_of t start.args.at.seat start.args.at.position in
     let same : c.guest-money.result ≡ g.money = c.guest-money.ensures ∙ ap (λ (s : Seat). (guest_at s start.args.at.position).money) (seat c.before) in
     let same-purse : c.guest-money.result.purse ≡ purse g = ap (λ (m : Money). m.purse) same in
-    let same-stake : c.guest-money.result.stake ≡ stake g = ap (λ (m : Money). m.stake) same in
-    (omega (arith, a.enough), omega (arith, insurance-most t.options (stake g) start.args.n a.permitted))
+    let same_stake : c.guest-money.result.stake ≡ stake g = ap (λ (m : Money). m.stake) same in
+    (omega (arith, a.enough), omega (arith, insurance_most t.options (stake g) start.args.n a.permitted))
 
 with-guest-requires : tie.Need-with-guest-requires
 with-guest-requires c κs = search rules

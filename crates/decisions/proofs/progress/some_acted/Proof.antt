@@ -10,7 +10,7 @@ use lib.Seq.{take_all}
 use Rattle.lists.specs.Tests.{any_of}
 use Rattle.lists.proofs.Tests.{any_at}
 use Rattle.table.specs.Table.{seats_hands}
-use Rattle.state.proofs.turn.Hands.{hands_of_lem, nine-seats, seat-passed}
+use Rattle.state.proofs.turn.Hands.{hands_of_lem, nine_seats_lem, seat-passed}
 use Rattle.decisions.specs.Aids.Acted.{acted}
 use Rattle.decisions.proofs.progress.some_acted.Statement.{statement}
 use Rattle.decisions.proofs.progress.some_acted.Tie as tie
@@ -41,7 +41,7 @@ returns c =
     let t = at.before.args.t2 in
     let i = at.loop.i in
     let full : length t.seats ≡ 9 = simp length-map at at.before.well-formed.1.0.1.1.1.1.0.1.0.1 in
-    sym (any_at (acted ends) (seats_hands t) i [] (omega (arith, nine-seats t full))
+    sym (any_at (acted ends) (seats_hands t) i [] (omega (arith, nine_seats_lem t full))
     (ap (acted ends) (hands_of_lem t i) ∙ sym c.before.has-acted.ensures ∙ c.if1.true))
 
 add-i : tie.Need-overflow-add-i invariant-loop decreases-loop
@@ -62,7 +62,7 @@ returns-2 c =
     let at = c.before in
     let t = at.before.args.t2 in
     let full : length t.seats ≡ 9 = simp length-map at at.before.well-formed.1.0.1.1.1.1.0.1.0.1 in
-    sym (rw (take_all at.loop.i (seats_hands t) (omega (arith, nine-seats t full))) at at.loop.invariant.1)
+    sym (rw (take_all at.loop.i (seats_hands t) (omega (arith, nine_seats_lem t full))) at at.loop.invariant.1)
 
 pub some-acted-spec : {M : Type 1} → statement M
 some-acted-spec =

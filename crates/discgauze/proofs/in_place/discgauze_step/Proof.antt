@@ -185,12 +185,12 @@ module _ {M : Type 1} {𝓤 : Ura M} (𝓛 : Logic 𝓤) (at_mem : Memory → SP
   abbrev last-nets : Lasts → List ℤ
   last-nets ws = ws.1.1.1.1.1.1.1.0
 
-  module _ (kind_fits : kind < 2 ^ 8) (seat-fits : seat < 2 ^ 8) (position-fits : position < 2 ^ 8) (amount-fits : amount < 2 ^ 64) where
+  module _ (kind_fits : kind < 2 ^ 8) (seat_fits : seat < 2 ^ 8) (position_fits : position < 2 ^ 8) (amount_fits : amount < 2 ^ 64) where
     asked : Is T.the_row table.now (tv table.now) → ent 𝓤 (sep 𝓤 (mean 𝓛 Tokens) (mean 𝓛 Lent)) ((Stepped 𝓛 at_mem run).pre to)
     asked gt =
         qed 𝓛 (Tokens ∷ Lent ∷ []) ∵ move ! (1 ∷ []) $ split ! $ move ! (1 ∷ []) $ split ! $ nothing ! $ move ! (2 ∷ 0 ∷ []) $ fjoin ! $ move ! (1 ∷ 0 ∷ []) $ fjoin ! $ move ! (1 ∷ 0 ∷ []) $ fjoin ! $
-        owned ! u64 (Is u64) (uint_Makes 𝓛 w64) amount _ (refl, amount-fits) $ fjoin ! $ owned ! u8 (Is u8) (uint_Makes 𝓛 w8) position _ (refl, position-fits) $ fjoin ! $
-        owned ! u8 (Is u8) (uint_Makes 𝓛 w8) seat _ (refl, seat-fits) $ fjoin ! $ owned ! u8 (Is u8) (uint_Makes 𝓛 w8) kind _ (refl, kind_fits) $ fjoin ! $
+        owned ! u64 (Is u64) (uint_Makes 𝓛 w64) amount _ (refl, amount_fits) $ fjoin ! $ owned ! u8 (Is u8) (uint_Makes 𝓛 w8) position _ (refl, position_fits) $ fjoin ! $
+        owned ! u8 (Is u8) (uint_Makes 𝓛 w8) seat _ (refl, seat_fits) $ fjoin ! $ owned ! u8 (Is u8) (uint_Makes 𝓛 w8) kind _ (refl, kind_fits) $ fjoin ! $
         owned ! T.the_row (Is T.the_row) (LL.makes T.the_type T'.the_plain 𝓛) table.now _ gt $ fjoin ! $ move ! (1 ∷ 0 ∷ []) $ join ! $ frame ! $ done !
 
     abbrev Had : Reply → List ℕ → List ℤ → List (Item 𝓤)
@@ -207,8 +207,8 @@ module _ {M : Type 1} {𝓤 : Ura M} (𝓛 : Logic 𝓤) (at_mem : Memory → SP
         move ! (6 ∷ []) $ split ! $ move ! (7 ∷ 1 ∷ []) $ join ! $ move ! (1 ∷ 0 ∷ []) $ join ! $ move ! (3 ∷ 0 ∷ []) $ join ! $ frame ! $
         -- [obs; the table's borrow; obs; the answer's borrow; what order owns; what says the last names; what says the last nets]
         nothing ! $ move ! (7 ∷ 0 ∷ []) $ fjoin ! $ move ! (6 ∷ 0 ∷ []) $ fjoin ! $ move ! (3 ∷ 4 ∷ []) $ feq_i ! (List Val) (p answer ∷ []) (p answer ∷ []) refl $ fjoin3 ! $ fjoin ! $ move ! (3 ∷ 0 ∷ []) $ fjoin ! $
-        owned ! u64 (Is u64) (uint_Makes 𝓛 w64) amount _ (refl, amount-fits) $ fjoin ! $ owned ! u8 (Is u8) (uint_Makes 𝓛 w8) position _ (refl, position-fits) $ fjoin ! $
-        owned ! u8 (Is u8) (uint_Makes 𝓛 w8) seat _ (refl, seat-fits) $ fjoin ! $ owned ! u8 (Is u8) (uint_Makes 𝓛 w8) kind _ (refl, kind_fits) $ fjoin ! $
+        owned ! u64 (Is u64) (uint_Makes 𝓛 w64) amount _ (refl, amount_fits) $ fjoin ! $ owned ! u8 (Is u8) (uint_Makes 𝓛 w8) position _ (refl, position_fits) $ fjoin ! $
+        owned ! u8 (Is u8) (uint_Makes 𝓛 w8) seat _ (refl, seat_fits) $ fjoin ! $ owned ! u8 (Is u8) (uint_Makes 𝓛 w8) kind _ (refl, kind_fits) $ fjoin ! $
         move ! (1 ∷ 2 ∷ []) $ feq_i ! (List Val) (p table ∷ []) (p table ∷ []) refl $ fjoin3 ! $ fjoin ! $
         owned ! u8 (Is u8) (uint_Makes 𝓛 w8) r.answer.number _ (refl, fits) $ move ! (1 ∷ 0 ∷ []) $ done !
 
@@ -223,8 +223,8 @@ module _ {M : Type 1} {𝓤 : Ura M} (𝓛 : Logic 𝓤) (at_mem : Memory → SP
           -- [obs; the table's borrow; its token; obs; the answer's borrow; its token; what nets own; true; what names own; what order owns; the token of nets; true; that of names; that of order]
           enter ! C Λ code.function vals _ $
           alloc1 ! (λ l₀. alloc1 ! (λ l₁. alloc1 ! (λ l₂. alloc1 ! (λ l₃. alloc1 ! (λ l₄. alloc1 ! (λ l₅. alloc1 ! (λ l₆. alloc1 ! (λ l₇. alloc1 ! (λ l₈. alloc1 ! (λ l₉. alloc1 ! (λ l₁₀. alloc1 ! (λ l₁₁. alloc1 ! (λ l₁₂. alloc1 ! (λ l₁₃. alloc0 ! $ params1 ! $
-          pass1 ! (init ! 24 refl (tt, tt)) $ pass1 ! (init ! 22 refl (tt, record { fits = kind_fits })) $ pass1 ! (init ! 20 refl (tt, record { fits = seat-fits })) $ pass1 ! (init ! 18 refl (tt, record { fits = position-fits })) $
-          pass1 ! (init ! 16 refl (tt, record { fits = amount-fits })) $ pass1 ! (init ! 14 refl ((shr_slice_Lawful 𝓛 (named 1) κ₁ u8).typed order (v ∷ []) gs).0) $
+          pass1 ! (init ! 24 refl (tt, tt)) $ pass1 ! (init ! 22 refl (tt, record { fits = kind_fits })) $ pass1 ! (init ! 20 refl (tt, record { fits = seat_fits })) $ pass1 ! (init ! 18 refl (tt, record { fits = position_fits })) $
+          pass1 ! (init ! 16 refl (tt, record { fits = amount_fits })) $ pass1 ! (init ! 14 refl ((shr_slice_Lawful 𝓛 (named 1) κ₁ u8).typed order (v ∷ []) gs).0) $
           pass1 ! (init ! 12 refl (tt, tt)) $ pass1 ! (init ! 10 refl (tt, tt)) $ pass1 ! (init ! 8 refl (tt, tt)) $ pass0 ! $
           move ! (28 ∷ 29 ∷ 30 ∷ []) $ opens ! tt T.the_row {h = table.now} table.ref_ptr.0 table.ref_ptr.1 (λ vs.
           spelt ! T.the_row (Is T.the_row) (shows 𝓛 T.the_row) (LL.vals T.the_type T'.the_laws) (LL.tells T.the_type T'.the_laws) full_share table.now vs table.ref_ptr.0 table.ref_ptr.1 $

@@ -22,7 +22,7 @@ returns c =
     let s = c.before.before.before.before.before.args.s in
     let p = c.before.before.before.before.before.args.place in
     let full : length s.hands.places ≡ 4 = simp length-map at c.before.before.before.before.before.well-formed.0.1.1.1.1.0.1.1.0.1.0.1 in
-    simp (le-leb (length (hands s)) p (omega (arith, many_hands s.hands full, c.before.before.used.ensures))) c.no-hand.ensures
+    simp (le-leb (length (hands s)) p (omega (arith, many_hands s.hands full, c.before.before.used.ensures))) c.no_hand.ensures
 
 mul-h : tie.Need-overflow-mul-h
 mul-h c = search rules

@@ -5,14 +5,14 @@ use native.Mathlib.Omega.{arith}
 use borrow.Author.Rules.{rules}
 use Rattle.rules.specs.SeatHand.{played_of}
 use Rattle.payment.specs.Prize.{prize, most_prize}
-use Rattle.payment.proofs.Bounds.{prize-most}
+use Rattle.payment.proofs.Bounds.{prize_most}
 use Rattle.table.specs.declared.Money.{Money}
 use Rattle.draw.proofs.card.all_won.Statement.{statement}
 use Rattle.draw.proofs.card.all_won.Tie as tie
 
 -- what a guest wins, by the stake as the code has read it, is at most one prize
 most : (c : tie.Start) {r : ℕ} {m n : Money} → r ≡ prize c.args.o m.stake (played_of c.args.h) → m ≡ n → r ≤ most_prize n.stake
-most c {m = m} won same = omega (arith, won, prize-most c.args.o m.stake (played_of c.args.h), ap (λ (x : Money). x.stake) same)
+most c {m = m} won same = omega (arith, won, prize_most c.args.o m.stake (played_of c.args.h), ap (λ (x : Money). x.stake) same)
 
 guest-money-requires : tie.Need-guest-money-requires
 guest-money-requires c κs = search rules

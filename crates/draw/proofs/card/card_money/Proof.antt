@@ -2,7 +2,7 @@
 use native.Mathlib.Omega.{arith}
 use borrow.Author.Rules.{rules}
 use Rattle.rules.specs.SeatHand.{played_of}
-use Rattle.payment.proofs.Bounds.{prize-most}
+use Rattle.payment.proofs.Bounds.{prize_most}
 use Rattle.draw.proofs.card.card_money.Statement.{statement}
 use Rattle.draw.proofs.card.card_money.Tie as tie
 
@@ -21,7 +21,7 @@ prize-requires c κs = search rules
 add-next : tie.Need-overflow-add-next
 add-next c =
     let start = c.before.before.before in
-    record { fits = omega (arith, start.requires.purse-fits, c.prize.ensures, prize-most start.args.o start.args.m.stake (played_of start.args.h)) }
+    record { fits = omega (arith, start.requires.purse_fits, c.prize.ensures, prize_most start.args.o start.args.m.stake (played_of start.args.h)) }
 
 returns : tie.Need-returns
 returns c = simp c.prize.ensures

@@ -34,7 +34,7 @@ grown-requires c κs =
 all-won-requires : tie.Need-all-won-requires
 all-won-requires c κs =
     let start = c.before.before.before.before.before.before.before.before.before in
-    rw start.requires.1 (omega (arith, start.requires.0.tray-has, start.requires.0.tray-fits))
+    rw start.requires.1 (omega (arith, start.requires.0.tray_has, start.requires.0.tray_fits))
 
 grown-seat-requires : tie.Need-grown-seat-requires
 grown-seat-requires c κs =
@@ -46,12 +46,12 @@ sub-t18 c =
     let won = c.before.before in
     let hand = won.before in
     let start = hand.before.before.before.before.before.before.before.before.before in
-    omega (arith, start.requires.0.tray-has, won.all-won.ensures, ap one_prize_each start.requires.1, all_most start.args.t.options (played_of hand.grown.result) start.args.s)
+    omega (arith, start.requires.0.tray_has, won.all-won.ensures, ap one_prize_each start.requires.1, all_most start.args.t.options (played_of hand.grown.result) start.args.s)
 
 add-t19 : tie.Need-overflow-add-t19
 add-t19 c =
     let start = c.before.before.before.before.before.before.before.before.before.before.before.before.before in
-    record { fits = omega (arith, start.requires.0.card-left) }
+    record { fits = omega (arith, start.requires.0.card_left) }
 
 returns : tie.Need-returns
 returns c =

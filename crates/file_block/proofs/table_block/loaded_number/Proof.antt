@@ -3,7 +3,7 @@ use mathlib.Core.Path.{sym, ◌∙◌, refl}
 use mathlib.Core.Bool.{not}
 use mathlib.Core.List.{List, [], ◌∷◌}
 use Rattle.call.specs.Refusal.{first, Condition}
-use Rattle.call.proofs.Refusals.{first_before, first-behind}
+use Rattle.call.proofs.Refusals.{first-before, first-behind}
 use Rattle.lists.specs.Tests.{all_of}
 use Rattle.file_spec.specs.TableBlock.{table_conditions, same_options, loaded_conditions}
 use borrow.Author.Rules.{rules}
@@ -17,7 +17,7 @@ returns : tie.Need-returns
 unfolding loaded_conditions
 returns c =
     let args = c.before.before.before.before.args in
-    c.before.table-number.ensures ∙ sym (first_before (table_conditions args.block.now) ((26, not (same_options args.start.now args.block.now)) ∷ []) _ refl (λ none. c.if1.true (c.before.table-number.ensures ∙ none)))
+    c.before.table-number.ensures ∙ sym (first-before (table_conditions args.block.now) ((26, not (same_options args.start.now args.block.now)) ∷ []) _ refl (λ none. c.if1.true (c.before.table-number.ensures ∙ none)))
 
 same-options-requires : tie.Need-same-options-requires
 same-options-requires c κs = search rules

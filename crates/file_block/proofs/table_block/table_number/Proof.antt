@@ -49,7 +49,7 @@ returns-2 c =
     let start = c.before.before.before.before.before.before.before in
     let block = start.args.block.now in
     let right : checks block ≡ true = sym c.before.before.before.before.before.checks.ensures ∙ not-false _ c.before.before.before.before.if1.false in
-    let range : in_range (options_in block) ≡ false = ap in_range (sym c.before.before.options-in.ensures) ∙ sym c.before.in-range.ensures ∙ not-true _ c.if2.true in
+    let range : in_range (options_in block) ≡ false = ap in_range (sym c.before.before.options-in.ensures) ∙ sym c.before.in_range_lem.ensures ∙ not-true _ c.if2.true in
     simp (right, range)
 
 sub-valid-order : tie.Need-overflow-sub-valid-order
@@ -62,8 +62,8 @@ part-valid-order-end : tie.Need-slice-bounds-valid-order-end
 unfolding options_in
 part-valid-order-end c =
     let block = c.before.before.before.before.before.before.before.args.block.now in
-    let range : in_range (options_in block) ≡ true = ap in_range (sym c.before.before.options-in.ensures) ∙ sym c.before.in-range.ensures ∙ not-false _ c.if2.false in
-    let few : get_or block 1 0 ≤ 8 = (in_range_facts (options_in block) range).decks-most in
+    let range : in_range (options_in block) ≡ true = ap in_range (sym c.before.before.options-in.ensures) ∙ sym c.before.in_range_lem.ensures ∙ not-false _ c.if2.false in
+    let few : get_or block 1 0 ≤ 8 = (in_range_facts (options_in block) range).decks_most in
     omega (arith, c.before.before.before.before.before.before.before.requires)
 
 valid-order-requires : tie.Need-valid-order-requires
@@ -75,7 +75,7 @@ returns-3 c =
     let start = c.before.before.before.before.before.before.before.before.before.before in
     let block = start.args.block.now in
     let right : checks block ≡ true = sym c.before.before.before.before.before.before.before.before.checks.ensures ∙ not-false _ c.before.before.before.before.before.before.before.if1.false in
-    let range : in_range (options_in block) ≡ true = ap in_range (sym c.before.before.before.before.before.options-in.ensures) ∙ sym c.before.before.before.before.in-range.ensures ∙ not-false _ c.before.before.before.if2.false in
+    let range : in_range (options_in block) ≡ true = ap in_range (sym c.before.before.before.before.before.options-in.ensures) ∙ sym c.before.before.before.before.in_range_lem.ensures ∙ not-false _ c.before.before.before.if2.false in
     let cards : 32 + 52 * get_or block 1 0 - 32 ≡ 52 * get_or block 1 0 = omega arith in
     let order : valid_order (get_or block 1 0) (order_in block) ≡ false
     = ap (λ (n : ℕ). valid_order (get_or block 1 0) (take n (drop 32 block))) (sym cards) ∙ sym c.before.valid-order.ensures ∙ not-true _ c.if3.true in
@@ -99,7 +99,7 @@ returns-4 c =
     let start = c.before.before.before.before.before.before.before.before.before.before.before.before.before in
     let block = start.args.block.now in
     let right : checks block ≡ true = sym c.before.before.before.before.before.before.before.before.before.before.before.checks.ensures ∙ not-false _ c.before.before.before.before.before.before.before.before.before.before.if1.false in
-    let range : in_range (options_in block) ≡ true = ap in_range (sym c.before.before.before.before.before.before.before.before.options-in.ensures) ∙ sym c.before.before.before.before.before.before.before.in-range.ensures ∙ not-false _ c.before.before.before.before.before.before.if2.false in
+    let range : in_range (options_in block) ≡ true = ap in_range (sym c.before.before.before.before.before.before.before.before.options-in.ensures) ∙ sym c.before.before.before.before.before.before.before.in_range_lem.ensures ∙ not-false _ c.before.before.before.before.before.before.if2.false in
     let cards : 32 + 52 * get_or block 1 0 - 32 ≡ 52 * get_or block 1 0 = omega arith in
     let order : valid_order (get_or block 1 0) (order_in block) ≡ true
     = ap (λ (n : ℕ). valid_order (get_or block 1 0) (take n (drop 32 block))) (sym cards) ∙ sym c.before.before.before.before.valid-order.ensures ∙ not-false _ c.before.before.before.if3.false in
@@ -110,16 +110,16 @@ sub-zeros-2 : tie.Need-overflow-sub-zeros-2
 unfolding options_in
 sub-zeros-2 c =
     let block = c.before.before.before.before.before.before.before.before.before.before.before.before.before.args.block.now in
-    let range : in_range (options_in block) ≡ true = ap in_range (sym c.before.before.before.before.before.before.before.before.options-in.ensures) ∙ sym c.before.before.before.before.before.before.before.in-range.ensures ∙ not-false _ c.before.before.before.before.before.before.if2.false in
-    let few : get_or block 1 0 ≤ 8 = (in_range_facts (options_in block) range).decks-most in
+    let range : in_range (options_in block) ≡ true = ap in_range (sym c.before.before.before.before.before.before.before.before.options-in.ensures) ∙ sym c.before.before.before.before.before.before.before.in_range_lem.ensures ∙ not-false _ c.before.before.before.before.before.before.if2.false in
+    let few : get_or block 1 0 ≤ 8 = (in_range_facts (options_in block) range).decks_most in
     omega (arith, c.before.before.before.before.before.before.before.before.before.before.before.before.before.requires)
 
 part-zeros-start-2 : tie.Need-slice-bounds-zeros-start-2
 unfolding options_in
 part-zeros-start-2 c =
     let block = c.before.before.before.before.before.before.before.before.before.before.before.before.before.args.block.now in
-    let range : in_range (options_in block) ≡ true = ap in_range (sym c.before.before.before.before.before.before.before.before.options-in.ensures) ∙ sym c.before.before.before.before.before.before.before.in-range.ensures ∙ not-false _ c.before.before.before.before.before.before.if2.false in
-    let few : get_or block 1 0 ≤ 8 = (in_range_facts (options_in block) range).decks-most in
+    let range : in_range (options_in block) ≡ true = ap in_range (sym c.before.before.before.before.before.before.before.before.options-in.ensures) ∙ sym c.before.before.before.before.before.before.before.in_range_lem.ensures ∙ not-false _ c.before.before.before.before.before.before.if2.false in
+    let few : get_or block 1 0 ≤ 8 = (in_range_facts (options_in block) range).decks_most in
     omega (arith, c.before.before.before.before.before.before.before.before.before.before.before.before.before.requires)
 
 part-zeros-end-2 : tie.Need-slice-bounds-zeros-end-2
@@ -134,12 +134,12 @@ returns-5 c =
     let start = c.before.before.before.before.before.before.before.before.before.before.before.before.before.before.before.before in
     let block = start.args.block.now in
     let right : checks block ≡ true = sym c.before.before.before.before.before.before.before.before.before.before.before.before.before.before.checks.ensures ∙ not-false _ c.before.before.before.before.before.before.before.before.before.before.before.before.before.if1.false in
-    let range : in_range (options_in block) ≡ true = ap in_range (sym c.before.before.before.before.before.before.before.before.before.before.before.options-in.ensures) ∙ sym c.before.before.before.before.before.before.before.before.before.before.in-range.ensures ∙ not-false _ c.before.before.before.before.before.before.before.before.before.if2.false in
+    let range : in_range (options_in block) ≡ true = ap in_range (sym c.before.before.before.before.before.before.before.before.before.before.before.options-in.ensures) ∙ sym c.before.before.before.before.before.before.before.before.before.before.in_range_lem.ensures ∙ not-false _ c.before.before.before.before.before.before.before.before.before.if2.false in
     let cards : 32 + 52 * get_or block 1 0 - 32 ≡ 52 * get_or block 1 0 = omega arith in
     let order : valid_order (get_or block 1 0) (order_in block) ≡ true
     = ap (λ (n : ℕ). valid_order (get_or block 1 0) (take n (drop 32 block))) (sym cards) ∙ sym c.before.before.before.before.before.before.before.valid-order.ensures ∙ not-false _ c.before.before.before.before.before.before.if3.false in
     let between : zeros (take 9 (drop 23 block)) ≡ true = sym c.before.before.before.before.zeros.ensures ∙ not-false _ c.before.before.before.if4.false in
-    let few : get_or block 1 0 ≤ 8 = (in_range_facts (options_in block) range).decks-most in
+    let few : get_or block 1 0 ≤ 8 = (in_range_facts (options_in block) range).decks_most in
     let tail : zeros (drop (32 + 52 * get_or block 1 0) (content block)) ≡ true
     = sym (content-behind block (32 + 52 * get_or block 1 0) (omega arith)) ∙ sym c.before.zeros2.ensures ∙ c.if5.true in
     simp (right, range, order, between, tail)
@@ -150,12 +150,12 @@ returns-6 c =
     let start = c.before.before.before.before.before.before.before.before.before.before.before.before.before.before.before.before in
     let block = start.args.block.now in
     let right : checks block ≡ true = sym c.before.before.before.before.before.before.before.before.before.before.before.before.before.before.checks.ensures ∙ not-false _ c.before.before.before.before.before.before.before.before.before.before.before.before.before.if1.false in
-    let range : in_range (options_in block) ≡ true = ap in_range (sym c.before.before.before.before.before.before.before.before.before.before.before.options-in.ensures) ∙ sym c.before.before.before.before.before.before.before.before.before.before.in-range.ensures ∙ not-false _ c.before.before.before.before.before.before.before.before.before.if2.false in
+    let range : in_range (options_in block) ≡ true = ap in_range (sym c.before.before.before.before.before.before.before.before.before.before.before.options-in.ensures) ∙ sym c.before.before.before.before.before.before.before.before.before.before.in_range_lem.ensures ∙ not-false _ c.before.before.before.before.before.before.before.before.before.if2.false in
     let cards : 32 + 52 * get_or block 1 0 - 32 ≡ 52 * get_or block 1 0 = omega arith in
     let order : valid_order (get_or block 1 0) (order_in block) ≡ true
     = ap (λ (n : ℕ). valid_order (get_or block 1 0) (take n (drop 32 block))) (sym cards) ∙ sym c.before.before.before.before.before.before.before.valid-order.ensures ∙ not-false _ c.before.before.before.before.before.before.if3.false in
     let between : zeros (take 9 (drop 23 block)) ≡ true = sym c.before.before.before.before.zeros.ensures ∙ not-false _ c.before.before.before.if4.false in
-    let few : get_or block 1 0 ≤ 8 = (in_range_facts (options_in block) range).decks-most in
+    let few : get_or block 1 0 ≤ 8 = (in_range_facts (options_in block) range).decks_most in
     let tail : zeros (drop (32 + 52 * get_or block 1 0) (content block)) ≡ false
     = sym (content-behind block (32 + 52 * get_or block 1 0) (omega arith)) ∙ sym c.before.zeros2.ensures ∙ c.if5.false in
     simp (right, range, order, between, tail)

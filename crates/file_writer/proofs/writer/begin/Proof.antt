@@ -22,7 +22,7 @@ returns : tie.Need-returns
 returns c =
     let o = c.before.before.before.before.before.args.o in
     let order = c.before.before.before.before.before.args.order.now in
-    let wrong : in_range o ≡ false = sym c.before.before.before.in-range.ensures ∙ not-true _ c.before.before.if1.true in
+    let wrong : in_range o ≡ false = sym c.before.before.before.in_range_lem.ensures ∙ not-true _ c.before.before.if1.true in
     let w = c.before.fresh.result in
     record {
       same = c.refused.ensures.same ∙ begin-none o order w.many (calls_of w) (rw wrong) c.before.fresh.ensures.1 (no_calls w c.before.fresh.ensures.1);
@@ -42,7 +42,7 @@ returns-2 : tie.Need-returns-2
 returns-2 c =
     let o = c.before.before.before.before.before.before.before.args.o in
     let order = c.before.before.before.before.before.before.before.args.order.now in
-    let right : in_range o ≡ true = sym c.before.before.before.before.before.in-range.ensures ∙ not-false _ c.before.before.before.before.if1.false in
+    let right : in_range o ≡ true = sym c.before.before.before.before.before.in_range_lem.ensures ∙ not-false _ c.before.before.before.before.if1.false in
     let wrong : valid_order o.decks order ≡ false = sym c.before.before.before.valid-order.ensures ∙ not-true _ c.before.before.if2.true in
     let w = c.before.fresh2.result in
     record {
@@ -66,7 +66,7 @@ returns-3 : tie.Need-returns-3
 returns-3 c =
     let o = c.before.before.before.before.before.before.before.before.before.args.o in
     let order = c.before.before.before.before.before.before.before.before.before.args.order.now in
-    let right : in_range o ≡ true = sym c.before.before.before.before.before.before.before.in-range.ensures ∙ not-false _ c.before.before.before.before.before.before.if1.false in
+    let right : in_range o ≡ true = sym c.before.before.before.before.before.before.before.in_range_lem.ensures ∙ not-false _ c.before.before.before.before.before.before.if1.false in
     let valid : valid_order o.decks order ≡ true = sym c.before.before.before.before.before.valid-order.ensures ∙ not-false _ c.before.before.before.before.if2.false in
     let w = c.before.fresh3.result in
     record {

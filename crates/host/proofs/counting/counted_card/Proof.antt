@@ -38,8 +38,8 @@ back_is c =
     let paid = ap (λ (m : Money). m.purse) (then_is c.before.before.before) in
     ap₂ (λ (x y : ℕ). x + y) (ap₂ (λ (x y : ℕ). x - y) paid (ap purse guest)) (c.prizes.ensures ∙ ap (prizes a.t.options) guest)
 
-laid-is : (c : tie.After-laid) → c.laid.result ≡ laid (guest_of c.before.before.before.before.before.before.before.before.before.before.before.before.before.before.before.before.args.t (c.before.before.before.before.before.before.before.before.before.before.before.before.before.before.before.before.args.place / 3) (c.before.before.before.before.before.before.before.before.before.before.before.before.before.before.before.before.args.place % 3))
-laid-is c = c.laid.ensures ∙ ap laid (guest-is c.before.before.before.before.before.before.before.before.before)
+laid_is : (c : tie.After-laid) → c.laid.result ≡ laid (guest_of c.before.before.before.before.before.before.before.before.before.before.before.before.before.before.before.before.args.t (c.before.before.before.before.before.before.before.before.before.before.before.before.before.before.before.before.args.place / 3) (c.before.before.before.before.before.before.before.before.before.before.before.before.before.before.before.before.args.place % 3))
+laid_is c = c.laid.ensures ∙ ap laid (guest-is c.before.before.before.before.before.before.before.before.before)
 
 returns : tie.Need-returns
 returns c = let a = c.before.before.args in not_here a.t a.after (a.place / 3) (a.place % 3) a.g c.if1.true
@@ -84,7 +84,7 @@ with-round-requires c κs =
     let won = c.before in
     let start = won.before.before.before.before.before.before.before.before.before.before.before.before.before.before.before in
     let a = start.args in
-    (card-fits a.t.options a.place a.g start.requires.1.1.1.1, (won.before.before.before.before.before.before.before.before.before.before.if2.false, (omega (arith, laid-is c, small-laid won.before.before.before), omega (arith, back_is won, small-back won.before.before.before))))
+    (card-fits a.t.options a.place a.g start.requires.1.1.1.1, (won.before.before.before.before.before.before.before.before.before.before.if2.false, (omega (arith, laid_is c, small-laid won.before.before.before), omega (arith, back_is won, small-back won.before.before.before))))
 
 returns-4 : tie.Need-returns-4
 returns-4 c =
@@ -93,7 +93,7 @@ returns-4 c =
     let guest = won.before.before.before.before.before.before.before.before in
     let a = won.before.before.before.before.before.before.before.before.before.before.before.before.before.before.before.args in
     counts_there a.t a.after (a.place / 3) (a.place % 3) a.g won.before.before.before.before.before.before.before.before.before.before.before.before.before.if1.false won.before.before.before.before.before.before.before.before.before.before.if2.false guest.guest-at.result (guest-is guest) won.before.before.before.before.before.if3.false _
-    (c.with-round.ensures ∙ ap₂ (with_round a.g.tally) (laid-is there) (back_is won))
+    (c.with-round.ensures ∙ ap₂ (with_round a.g.tally) (laid_is there) (back_is won))
 
 pub counted-card-spec : {M : Type 1} → statement M
 counted-card-spec = tie.close (tie.spec returns returns-2 cast-p seat-at-requires guest-at-requires returns-3 seat-at-requires-2 guest-money-requires sub_back prizes-requires add_back laid-requires with-round-requires returns-4)

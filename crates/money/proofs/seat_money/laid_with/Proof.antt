@@ -7,7 +7,7 @@ use lib.ListN.{length, length-map}
 use Rattle.payment.specs.Wager.{wager}
 use Rattle.payment.proofs.Bounds.{wager_bounds}
 use Rattle.table.specs.Seat.{laid}
-use Rattle.money.proofs.seat_money.Hands.{no_hand, hands-most}
+use Rattle.money.proofs.seat_money.Hands.{no_hand, hands_most}
 use borrow.Author.Rules.{rules}
 use Rattle.money.proofs.seat_money.laid_with.Statement.{statement}
 use Rattle.money.proofs.seat_money.laid_with.Tie as tie
@@ -38,13 +38,13 @@ add-result-2 : tie.Need-overflow-add-result-2
 add-result-2 c =
     let start = c.before.before.before.before.before.before.before in
     let s = start.args.s in
-    omega (arith, start.requires, hands-most (wager s.money.stake) s.hands (full start) (2 * s.money.stake) (λ h. (wager_bounds s.money.stake h).1))
+    omega (arith, start.requires, hands_most (wager s.money.stake) s.hands (full start) (2 * s.money.stake) (λ h. (wager_bounds s.money.stake h).1))
 
 add-result-3 : tie.Need-overflow-add-result-3
 add-result-3 c =
     let start = c.before.before.before.before.before.before.before in
     let s = start.args.s in
-    omega (arith, start.requires, hands-most (wager s.money.stake) s.hands (full start) (2 * s.money.stake) (λ h. (wager_bounds s.money.stake h).1), c.before.before.before.all-sides.ensures.1)
+    omega (arith, start.requires, hands_most (wager s.money.stake) s.hands (full start) (2 * s.money.stake) (λ h. (wager_bounds s.money.stake h).1), c.before.before.before.all-sides.ensures.1)
 
 returns-2 : tie.Need-returns-2
 unfolding laid

@@ -8,7 +8,7 @@ use Rattle.lists.specs.Sum.{sum_of}
 use Rattle.rules.specs.SeatHand.{played_of, hands_of}
 use Rattle.rules.proofs.seat_hand.Places.{none}
 use Rattle.payment.specs.Prize.{prize, most_prize}
-use Rattle.payment.proofs.Bounds.{prize-most}
+use Rattle.payment.proofs.Bounds.{prize_most}
 use Rattle.table.specs.Seat.{prizes}
 use Rattle.money.proofs.seat_money.Hands.{next-hand, every_hand}
 use Rattle.money.proofs.seat_money.prizes.Statement.{statement}
@@ -40,7 +40,7 @@ add-won : tie.Need-overflow-add-won invariant-loop decreases-loop
 add-won c =
     let s = c.before.before.before.before.before.before.before.args.s in
     let h = get_or s.hands.places c.before.before.before.loop.i none in
-    omega (arith, prize-most c.before.before.before.before.before.before.before.args.o s.money.stake (played_of h))
+    omega (arith, prize_most c.before.before.before.before.before.before.before.args.o s.money.stake (played_of h))
 
 add-i : tie.Need-overflow-add-i invariant-loop decreases-loop
 add-i c = search rules
@@ -54,7 +54,7 @@ loop-again c =
     let o = c.before.before.before.before.before.before.before.args.o in
     let full : length s.hands.places ≡ 4 = simp length-map at c.before.before.before.before.before.before.before.well-formed.1.0.1.1.1.1.0.1.1.0.1.0.1 in
     let i = c.before.before.before.loop.i in
-    let more = prize-most o s.money.stake (played_of (get_or s.hands.places i none)) in
+    let more = prize_most o s.money.stake (played_of (get_or s.hands.places i none)) in
     (omega arith, rw (next-hand (prize o s.money.stake) s.hands full i (omega arith)) (omega arith), omega arith)
 
 returns : tie.Need-returns invariant-loop decreases-loop

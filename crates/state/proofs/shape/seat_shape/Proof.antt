@@ -56,9 +56,9 @@ returns c =
     let places : length s.hands.places ≡ 4 = simp length-map at start.well-formed.0.1.1.1.1.0.1.1.0.1.0.1 in
     let others : length s.others ≡ 2 = simp length-map at start.well-formed.0.1.1.1.0.1.0.1 in
     record {
-      four-places = places;
-      two-others = others;
-      four-sides = below_three _ c.before.before.before.before.money-shape.ensures c.before.before.money-shape2.ensures c.money-shape3.ensures;
+      four_places = places;
+      two_others = others;
+      four_sides = below_three _ c.before.before.before.before.money-shape.ensures c.before.before.money-shape2.ensures c.money-shape3.ensures;
       three_first = search rules;
       twenty_cards = below_four _ four.before.before.before.before.before.before.before.hand-shape.ensures four.before.before.before.before.before.hand-shape2.ensures four.before.before.before.hand-shape3.ensures four.before.hand-shape4.ensures;
     }

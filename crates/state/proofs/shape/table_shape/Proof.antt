@@ -46,7 +46,7 @@ returns c =
     let t = start.args.t in
     let full : length t.seats ≡ 9 = simp length-map at start.well-formed.0.1.1.1.1.0.1.0.1 in
     record {
-      nine-seats = full;
+      nine_seats_lem = full;
       seats = λ i h. c.before.loop.invariant.1 i (omega arith);
       bank = search rules;
       order = simp length-map at start.well-formed.0.1.1.1.1.1.1.0.1.1.0.1.0.1;
