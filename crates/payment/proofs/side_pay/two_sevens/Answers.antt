@@ -1,0 +1,18 @@
+-- The test is the definition's.
+use borrow.Author.Tests.{eq-eqb, ne_eqb}
+use Rattle.cards.specs.Card.{suit_of}
+use Rattle.payment.specs.SidePay.{same_suit}
+use native.Mathlib.Omega.{arith}
+use Rattle.payment.proofs.side_pay.two_sevens.Goals as goal
+
+pub returns-then-suit : goal.returns-then-suit
+unfolding same_suit
+returns-then-suit c =
+    let at = c.args in
+    simp (eq-eqb (suit_of at.one) (suit_of at.two) (omega arith))
+
+pub returns-else-suit : goal.returns-else-suit
+unfolding same_suit
+returns-else-suit c =
+    let at = c.args in
+    simp (ne_eqb (suit_of at.one) (suit_of at.two) (omega arith))

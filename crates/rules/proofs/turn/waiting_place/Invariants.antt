@@ -1,0 +1,15 @@
+-- `waiting_place` looks place by place: before each turn none of the first i hands waits.
+use mathlib.Core.Path.{◌≡◌}
+use mathlib.Core.Bool.{false}
+use Prim.Native.Nat.{◌-◌, ◌≤◌}
+use lib.ListN.{take}
+use Rattle.lists.specs.Tests.{any_of}
+use Rattle.rules.specs.SeatHand.{hands_of}
+use Rattle.rules.specs.Waits.{waits}
+use Rattle.rules.proofs.turn.waiting_place.Given as goal
+
+abbrev pub invariant-loop-i : goal.invariant-loop-i
+invariant-loop-i l = (l.i ≤ l.n) × (any_of (waits l.o l.up l.n) (take l.i (hands_of l.s)) ≡ false)
+
+abbrev pub decreases-loop-i : goal.decreases-loop-i
+decreases-loop-i l = l.n - l.i
