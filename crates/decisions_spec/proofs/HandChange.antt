@@ -99,21 +99,21 @@ module _ (t : Table) (e : Entry) (j p tray : ℕ) (m : Money) (others : List Mon
         let lies : laid (guest_at now q) ≡ sum_of (wager (stake g)) (hands now) + insurance g + all_sides (sides g) =
         guest-laid now q now-shaped.four_places w.seat.some
         ∙ ap (λ (x : Money). sum_of (wager x.stake) (hands now) + x.insurance + all_sides x.sides) (now-money q) in
-        omega (arith, guest-laid (seat_at t j) q w.seat.shaped.four_places w.seat.some, over-hands (wager (stake g)), d.wager-grows (stake g))
+        omega (arith, guest-laid (seat_at t j) q w.seat.shaped.four_places w.seat.some, over-hands (wager (stake g)), d.wager_grows (stake g))
 
     now-prizes : (q : ℕ) → prizes t.options (guest_at now q) ≡ prizes t.options (guest_of t j q) + won (stake (guest_of t j q))
     now-prizes q =
         let S = stake (guest_of t j q) in
         let wins-now : prizes t.options (guest_at now q) ≡ sum_of (prize t.options S) (hands now) =
         guest-prizes t.options now q ∙ ap (λ (x : Money). sum_of (prize t.options x.stake) (hands now)) (now-money q) in
-        omega (arith, guest-prizes t.options (seat_at t j) q, over-hands (prize t.options S), d.prize-grows S)
+        omega (arith, guest-prizes t.options (seat_at t j) q, over-hands (prize t.options S), d.prize_grows S)
 
     -- it has as many hands
     now-first : first_cards now ≡ first_cards (seat_at t j)
     now-first = ap (λ (n : ℕ). take (cond (eqb n 1) 2 3) (seat_at t j).first) (ap length now-hands ∙ length-set (hands (seat_at t j)) p (played_of h))
 
     now-cards : (v : ℕ → ℕ) → sum_of v (seat_cards now) ≡ sum_of v (seat_cards (seat_at t j)) + sum_of v (take k (table_shoe t))
-    now-cards v = omega (arith, seat_cards_lem v now, seat_cards_lem v (seat_at t j), over-hands (λ x. sum_of v x.cards), d.cards-grow v)
+    now-cards v = omega (arith, seat_cards_lem v now, seat_cards_lem v (seat_at t j), over-hands (λ x. sum_of v x.cards), d.cards_grow v)
 
     now-staked : stake now ≡ stake (seat_at t j)
     now-staked = ap stake (sym (guest-seated now)) ∙ ap (λ (x : Money). x.stake) (now-money 0) ∙ ap stake (guest-seated (seat_at t j))
@@ -131,7 +131,7 @@ module _ (t : Table) (e : Entry) (j p tray : ℕ) (m : Money) (others : List Mon
                 in_round_lem = w.seat.playing.in_round_lem;
                 staked = omega (arith, w.seat.acting.staked, now-staked);
                 within = w.seat.playing.within;
-                each = each_with paid p paid-shaped w.seat.few w.here h t.options (up t) w.seat.playing.each d.sound-hand;
+                each = each_with paid p paid-shaped w.seat.few w.here h t.options (up t) w.seat.playing.each d.sound_hand_lem;
               };
           turn_is = d.turn_is;
           hands_are = λ c agree. now-hands ∙ sym (d.decides c agree);

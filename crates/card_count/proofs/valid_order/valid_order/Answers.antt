@@ -1,0 +1,31 @@
+-- An order of another length is not valid; of an order of that length the counters of the faces decide.
+use mathlib.Core.Path.{◌≡◌, refl, ◌∙◌}
+use Prim.Native.Nat.{◌*◌}
+use native.Mathlib.Omega.{arith}
+use borrow.Author.Tests.{ne_eqb}
+use lib.ListN.{length}
+use Rattle.card_count.specs.Aids.Counters.{no_counts}
+use Rattle.card_count.proofs.counters.Counts.{room-zeros}
+use Rattle.table.specs.Shoe.{valid_order}
+use Rattle.card_count.proofs.valid_order.Orders.{faces-decide}
+use Rattle.card_count.proofs.valid_order.valid_order.Goals as goal
+
+pub returns-then-order-decks : goal.returns-then-order-decks
+unfolding valid_order
+returns-then-order-decks c =
+    let start = c in
+    rw (ne_eqb (length start.args.order.now) (52 * start.args.decks) (λ e. omega arith))
+
+pub count-requires : goal.count-requires
+unfolding no_counts
+count-requires c = room-zeros (length c.args.order.now) (omega arith)
+
+pub returns : goal.returns
+unfolding no_counts
+returns c =
+    let start = c in
+    let right : length start.args.order.now ≡ 52 * start.args.decks = omega arith in
+    c.each_face.ensures
+    ∙ faces-decide start.args.decks start.args.order.now start.args.order.now _ right
+    c.count.ensures
+    (λ b. refl)

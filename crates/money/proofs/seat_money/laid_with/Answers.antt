@@ -1,0 +1,42 @@
+-- A seat has no hand exactly if its count is 0; else the wagers, of at most eight stakes of 32 bits, leave room for the insurance and the side stakes.
+use mathlib.Core.Path.{◌≡◌}
+use Prim.Native.Nat.{◌*◌}
+use native.Mathlib.Omega.{arith}
+use borrow.Author.Tests.{eq-eqb, ne_eqb}
+use lib.ListN.{length}
+use Rattle.payment.specs.Wager.{wager}
+use Rattle.payment.proofs.Bounds.{wager_bounds}
+use Rattle.table.specs.Seat.{laid}
+use Rattle.money.proofs.seat_money.Hands.{no_hand, hands_most}
+use borrow.Author.Rules.{rules}
+use Rattle.money.proofs.seat_money.laid_with.Goals.{Start}
+use Rattle.money.proofs.seat_money.laid_with.Goals as goal
+
+full : (c : Start) → length c.args.s.hands.places ≡ 4
+full c = search rules
+
+pub returns-then-hands-eq0 : goal.returns-then-hands-eq0
+unfolding laid
+returns-then-hands-eq0 c =
+    let start = c in
+    let s = start.args.s in
+    simp (no_hand s.hands (full (goal.at.returns-then-hands-eq0 start).Start), eq-eqb _ _ c.if-hands-eq0.true) (omega (arith, c.all_sides-beside.ensures.same))
+
+pub overflow_add-result-2 : goal.overflow_add-result-2
+overflow_add-result-2 c =
+    let start = c in
+    let s = start.args.s in
+    omega (arith, start.requires, hands_most (wager s.money.stake) s.hands (full (goal.at.overflow_add-result-2 start).Start) (2 * s.money.stake) (λ h. (wager_bounds s.money.stake h).1))
+
+pub overflow_add-result-3 : goal.overflow_add-result-3
+overflow_add-result-3 c =
+    let start = c in
+    let s = start.args.s in
+    omega (arith, start.requires, hands_most (wager s.money.stake) s.hands (full (goal.at.overflow_add-result-3 start).Start) (2 * s.money.stake) (λ h. (wager_bounds s.money.stake h).1), c.all_sides-beside.ensures.small)
+
+pub returns : goal.returns
+unfolding laid
+returns c =
+    let start = c in
+    let s = start.args.s in
+    simp (no_hand s.hands (full (goal.at.returns start).Start), ne_eqb _ _ c.if-hands-eq0.false) (omega (arith, start.requires, c.all_sides-beside.ensures.same))
