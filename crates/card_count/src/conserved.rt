@@ -10,7 +10,7 @@ ghost use Rattle.card_count.specs.Aids.Counters.{no_counts};
 ghost use Rattle.card_count.specs.Aids.Left.{OrderFits, Left, OfValid, WithHands};
 
 use crate::counters::{count, each_face};
-use crate::out_cards::count_hand;
+use crate::out_cards::{count_hand, count_seats};
 use table::Table;
 
 // Whether the first discards are the first cards of the order. The loop has no branch, so that the compiler compares several at a time.
@@ -94,4 +94,16 @@ pub fn out_is_drawn(of: &mut [u16; 256], t: Table, hands: usize) -> bool
         return false;
     }
     each_face(of, options.decks as u16)
+}
+
+// All three tests, of a table alone: the order is valid, the discards are its first drawn cards, and what is out is what was drawn.
+pub fn cards_conserved(t: Table) -> bool
+    ensures { result ≡ (sound_shoe t && sound_discards t && sound_faces t) }
+{
+    let mut of = [0u16; 256];
+    if !order_sound(&mut of, t) {
+        return false;
+    }
+    let hands = count_seats(&mut of, t);
+    out_is_drawn(&mut of, t, hands)
 }

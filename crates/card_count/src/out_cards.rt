@@ -1,13 +1,16 @@
-// Cards of a table, counted part by part. Each function gives the number of cards that it counted.
+// The cards of a table, counted part by part. Each function gives the number of cards that it counted.
+ghost use Rattle.std.specs.Prelude.{◌++◌};
 ghost use Rattle.lists.specs.Flat.{flat};
 ghost use Rattle.cards.specs.Hand.{cards_of};
 ghost use Rattle.rules.specs.SeatHand.{hands_of};
+ghost use Rattle.table.specs.Table.{hand_cards, bank_cards};
 ghost use Rattle.card_count.specs.Aids.Counters.{Room};
 ghost use Rattle.card_count.specs.Aids.Counted.{Counted};
 
 use crate::counters::count;
 use cards::hand::{Hand, held};
 use rules::seat_hand::{SeatHands, used};
+use table::Table;
 
 // A hand's cards.
 pub(crate) fn count_hand(of: &mut [u16; 256], h: Hand) -> usize
@@ -33,4 +36,31 @@ pub fn count_seat(of: &mut [u16; 256], s: SeatHands) -> usize
         many += count_hand(of, hand);
     }
     many
+}
+
+// The cards of all seats' hands. A seat without a hand is passed over.
+pub(crate) fn count_seats(of: &mut [u16; 256], t: Table) -> usize
+    requires { Room of.old 720 }
+    ensures { Counted of.old of.new (hand_cards t) result 720 }
+{
+    let seats = t.seats;
+    let mut many: usize = 0;
+    for i in 0usize..9 {
+        let s = seats[i];
+        let hands = s.hands;
+        if hands.many != 0 {
+            many += count_seat(of, hands);
+        }
+    }
+    many
+}
+
+// The cards in hands and with the bank.
+pub(crate) fn count_in_play(of: &mut [u16; 256], t: Table) -> usize
+    requires { Room of.old 740 }
+    ensures { Counted of.old of.new (hand_cards t ++ bank_cards t) result 740 }
+{
+    let hands = count_seats(of, t);
+    let h = t.bank;
+    hands + count_hand(of, h)
 }

@@ -1,9 +1,9 @@
-// A seat taken out of the table; a guest of it taken out and put back (request 2.8), and who decides for it.
+// A seat taken out of the table and put back; a guest of it taken out and put back (request 2.8), and who decides for it.
 ghost use Rattle.std.specs.Prelude.{◌≡◌, ◌<◌, eqb, get_or};
 ghost use Rattle.lists.specs.Below.{all_below};
 ghost use Rattle.table.specs.Guest.{is_nobody, nobody_in};
 ghost use Rattle.table.specs.Seat.{guest_at, with_guest, decider as decider_of};
-ghost use Rattle.table.specs.Table.{seat_at};
+ghost use Rattle.table.specs.Table.{seat_at, with_seat};
 
 use options::Options;
 use options::decider::deciding_position;
@@ -25,6 +25,18 @@ pub fn seat_at(t: Table, i: usize) -> Seat
         7 => t.seats[7],
         _ => t.seats[8],
     }
+}
+
+// The table with that seat in place i; the table itself where it has no such place.
+pub fn with_seat(t: Table, i: usize, s: Seat) -> Table
+    ensures { result ≡ with_seat t i s }
+{
+    if 9 <= i {
+        return t;
+    }
+    let mut next = t;
+    next.seats[i] = s;
+    next
 }
 
 // The money of the guest in that position. It asks for one of the three.

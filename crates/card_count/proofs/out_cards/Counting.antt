@@ -13,7 +13,7 @@ use Rattle.card_count.proofs.counters.Counts.{counted-append, room_after}
 use Rattle.card_count.specs.Aids.Counted.{Counted}
 
 -- room for fewer cards, and what counted cards leave of it
-room-less : {a : List ℕ} {n : ℕ} (m : ℕ) → Room a n → m ≤ n → Room a m
+pub room-less : {a : List ℕ} {n : ℕ} (m : ℕ) → Room a n → m ≤ n → Room a m
 room-less m room h = record { each_byte = room.each_byte; fits = λ b. omega (arith, room.fits b) }
 
 pub counted-room : {a b xs : List ℕ} {k most : ℕ} (n m : ℕ) → Room a n → Counted a b xs k most → most + m ≤ n → Room b m
