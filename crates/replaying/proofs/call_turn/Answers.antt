@@ -8,9 +8,6 @@ use Rattle.session_file.specs.Reader.{handed_of}
 use Rattle.replaying.proofs.Plays.{reply_next, none_stays}
 use Rattle.replaying.proofs.call_turn.Goals as goal
 
-pub call_at-h-requires : goal.call_at-h-requires
-call_at-h-requires c = tt
-
 pub returns-then-not-h : goal.returns-then-not-h
 returns-then-not-h c =
     let args = c.args in

@@ -14,30 +14,12 @@ use Rattle.file_spec.specs.Handed.{file_options, file_order}
 use Rattle.replaying.proofs.Plays.{open_whole, has_block}
 use Rattle.replaying.proofs.open_file.Goals as goal
 
-pub file_number-number-requires : goal.file_number-number-requires
-file_number-number-requires c = tt
-
-pub no_options-requires : goal.no_options-requires
-no_options-requires c = tt
-
-pub opening-none-requires : goal.opening-none-requires
-opening-none-requires c = tt
-
 pub returns-then-number-ne0 : goal.returns-then-number-ne0
 returns-then-number-ne0 c =
     let file = c.args.file.now in
     let number = c.file_number-number.ensures in
     let some = c.if-number-ne0.true in
     record { number = number ∙ rw (ne_eqb (file_number file) 0 (λ e. some (number ∙ e))); table = λ e. absurd (some e); whole = λ e. absurd (some e) }
-
-pub file_options-requires : goal.file_options-requires
-file_options-requires c = tt
-
-pub file_order-requires : goal.file_order-requires
-file_order-requires c = tt
-
-pub opening-requires : goal.opening-requires
-opening-requires c = tt
 
 pub returns : goal.returns
 returns c =

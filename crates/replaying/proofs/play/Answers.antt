@@ -1,7 +1,6 @@
 -- `play` goes call by call: before each turn what is left to play leads to the table of all calls, and the table is whole.
 use mathlib.Core.Path.{◌≡◌, sym, ◌∙◌}
 use mathlib.Core.Bool.{true, false}
-use Prim.Native.Nat.{◌-◌}
 use native.Mathlib.Omega.{arith}
 use borrow.Author.Tests.{not-true, not-false}
 use Rattle.engine.specs.Step.{next}
@@ -9,16 +8,10 @@ use Rattle.file_spec.specs.Reader.{handed_at}
 use Rattle.replaying.proofs.Plays.{begins, later, rest-next, rest_end, none-behind}
 use Rattle.replaying.proofs.play.Goals as goal
 
-pub open_file-first-requires : goal.open_file-first-requires
-open_file-first-requires c = tt
-
 pub returns-then-first-ne0 : goal.returns-then-first-ne0
 returns-then-first-ne0 c =
     let opened = c.open_file-first.ensures in
     record { number = opened.number; table = λ e. absurd (c.if-first-ne0.true e); whole = λ e. absurd (c.if-first-ne0.true e) }
-
-pub call_place-at-requires : goal.call_place-at-requires
-call_place-at-requires c = tt
 
 pub loop-at-init : goal.loop-at-init
 loop-at-init c =

@@ -8,9 +8,6 @@ use Rattle.engine.specs.Step.{step}
 use Rattle.replaying.proofs.Plays.{next-whole, reply_next}
 use Rattle.replaying.proofs.play_call.Goals as goal
 
-pub part-requires : goal.part-requires
-part-requires c = tt
-
 pub step_checked-requires : goal.step_checked-requires
 step_checked-requires c = c.requires.sound
 

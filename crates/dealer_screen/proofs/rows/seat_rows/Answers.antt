@@ -1,7 +1,7 @@
 -- Place by place: before each turn the rows are those with the hands of the first places that are wanted, so at most as many more.
 use mathlib.Core.Path.{◌≡◌, refl, sym, ◌∙◌, ap}
 use mathlib.Core.List.{List}
-use Prim.Native.Nat.{ℕ, ◌+◌, ◌-◌, ◌≤◌, min}
+use Prim.Native.Nat.{ℕ, ◌+◌, ◌≤◌, min}
 use native.Mathlib.Omega.{arith}
 use lib.ListN.{length, take, get_or}
 use Rattle.lists.proofs.Takes.{take_clamped}
@@ -20,21 +20,6 @@ use Rattle.dealer_screen.proofs.rows.seat_rows.Goals.{then-wanted, else-wanted}
 pub loop-place-init : goal.loop-place-init
 unfolding with_rows place_rows
 loop-place-init c = (omega arith, omega (arith, c.used-many.ensures), refl, omega arith)
-
-pub offset_bounds-hands-place : goal.offset_bounds-hands-place
-offset_bounds-hands-place c = omega arith
-
-pub bounds-hands-place : goal.bounds-hands-place
-bounds-hands-place c = omega arith
-
-pub with_row-next-requires : goal.with_row-next-requires
-with_row-next-requires c = omega arith
-
-pub overflow_step-place : goal.overflow_step-place
-overflow_step-place c = omega arith
-
-pub loop-place-smaller : goal.loop-place-smaller
-loop-place-smaller c = omega arith
 
 pub loop-place-preserved : goal.loop-place-preserved
 unfolding with_row

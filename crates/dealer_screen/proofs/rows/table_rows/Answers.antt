@@ -1,6 +1,6 @@
 -- Seat by seat: before each turn the rows are those with the wanted hands of the first i seats, at most four for each.
 use mathlib.Core.Path.{◌≡◌, refl, ◌∙◌, ap}
-use Prim.Native.Nat.{ℕ, ◌-◌}
+use Prim.Native.Nat.{ℕ}
 use native.Mathlib.Omega.{arith}
 use lib.ListN.{length}
 use lib.Seq.{take_all}
@@ -15,21 +15,6 @@ use Rattle.dealer_screen.proofs.rows.table_rows.Goals as goal
 pub loop-i-init : goal.loop-i-init
 unfolding with_rows rows_from
 loop-i-init c = (omega arith, refl, omega arith)
-
-pub offset_bounds-seats-i : goal.offset_bounds-seats-i
-offset_bounds-seats-i c = omega arith
-
-pub bounds-seats-i : goal.bounds-seats-i
-bounds-seats-i c = omega arith
-
-pub seat_rows-next-requires : goal.seat_rows-next-requires
-seat_rows-next-requires c = omega arith
-
-pub overflow_step-i : goal.overflow_step-i
-overflow_step-i c = omega arith
-
-pub loop-i-smaller : goal.loop-i-smaller
-loop-i-smaller c = omega arith
 
 pub loop-i-preserved : goal.loop-i-preserved
 loop-i-preserved c =
