@@ -11,7 +11,7 @@ ghost use Rattle.table.specs.Broken.{seat_sound, sound_faces, sound_begun, sound
 ghost use Rattle.money.specs.Sums.{table_sums};
 ghost use Rattle.card_count.specs.Aids.Counters.{Room};
 ghost use Rattle.card_count.specs.Aids.Left.{OfValid};
-ghost use Rattle.broken.specs.Aids.OfSeats.{OfSeats};
+ghost use Rattle.broken.specs.Aids.OfPass.{OfPass};
 
 use crate::hand::looked_at;
 use crate::seat::{lone, surveyed_crowd, surveyed_lone};
@@ -37,7 +37,7 @@ struct Pass {
 // hands are looked at here, at one place, so that the compiler puts the look into the loop.
 fn surveyed(of: &mut [u16; 256], t: Table) -> Pass
     requires { Room of.old 720 }
-    ensures { OfSeats t of.old of.new result }
+    ensures { OfPass t of.old of.new result }
 {
     let o = t.options;
     let dealt = is_dealt(t);

@@ -1,0 +1,27 @@
+-- The conditions are asked in the order of the list: those of every call of a guest first.
+use mathlib.Core.Path.{◌≡◌, refl, sym, ◌∙◌}
+use Rattle.call.specs.Refusal.{first}
+use Rattle.answer.specs.Conditions.{between_rounds, guest_conditions}
+use Rattle.answer.proofs.conditions.Laws.{guest-asked, guest_refuses, guest-passes, guest-nine, guest_three}
+use Rattle.cashier_spec.specs.Cash.{cash_conditions}
+use Rattle.cashier.proofs.cash.cash_number.Goals.{After-guest_number-early}
+use Rattle.cashier.proofs.cash.cash_number.Goals as goal
+
+-- the number of the conditions of every call of a guest
+early : (c : After-guest_number-early) → c.guest_number-early.result ≡ first (guest_conditions (between_rounds c.args.t) c.args.t c.args.at.seat c.args.at.position)
+early c = guest-asked _ _ _ 4 _ _ _ c.guest_number-early.ensures c.requires.0 c.is_dealt.ensures
+
+pub returns-then-early-ne0 : goal.returns-then-early-ne0
+unfolding cash_conditions
+returns-then-early-ne0 c = guest_refuses _ _ _ _ _ (early (goal.at.returns-then-early-ne0 c).After-guest_number-early) c.if-early-ne0.true _
+
+pub purse_at-requires : goal.purse_at-requires
+purse_at-requires c = guest_three _ _ _ _ _ (early (goal.at.purse_at-requires c).After-guest_number-early) refl c.if-early-ne0.false
+
+pub returns : goal.returns
+unfolding cash_conditions first
+returns c =
+    let passed = c in
+    let seat = passed.requires.1 (guest-nine _ _ _ _ _ (early (goal.at.returns passed).After-guest_number-early) refl passed.if-early-ne0.false) in
+    (simp (c.asked-2.ensures, c.asked.ensures, c.purse_at.ensures, seat))
+    ∙ sym (guest-passes _ _ _ _ _ (early (goal.at.returns passed).After-guest_number-early) refl passed.if-early-ne0.false _)
