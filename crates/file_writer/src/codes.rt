@@ -55,6 +55,7 @@ fn of_side(at: At, kind: u8, amount: u64) -> Parts
 }
 
 // A call taken apart.
+#[tactic(auto, unfolding(file_spec::specs::File::known_kind))]
 pub fn parts_of(c: Call) -> Parts
     ensures { result ≡ parts_of c }
 {

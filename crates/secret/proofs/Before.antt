@@ -72,7 +72,7 @@ module _ (p q : ℕ) where
             (λ zero dealt n least most. absurd (true≢false (sym dealt ∙ b.undealt)))
             (λ zero after whole other_whole.
             record {
-              veiled = rw after.order-stays after.veiled;
+              veiled = rw after.order_stays after.veiled;
               whole = whole;
               other_whole = other_whole;
               box = rw (step_options t c lent) b.box;

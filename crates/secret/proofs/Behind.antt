@@ -133,7 +133,7 @@ module _ (q : ℕ) where
               other_whole = other_whole;
               box = rw (step_options t c lent) b.box;
               begun = omega (arith, b.begun, after.least);
-              ahead = λ n least other. b.ahead n (omega (arith, after.least, least)) other ∙ sym (ap (λ (order : List ℕ). get_or order n 0) after.order-stays);
+              ahead = λ n least other. b.ahead n (omega (arith, after.least, least)) other ∙ sym (ap (λ (order : List ℕ). get_or order n 0) after.order_stays);
             }
 
     behind-step : (c : Call) → Here c

@@ -10,7 +10,7 @@ pub mod Numbers
 pub mod Effects
 pub mod Alike
 pub mod Deal
-pub mod Hidden
+pub mod HiddenCards
 pub mod Kept
 -- Lists of calls.
 pub mod Plays

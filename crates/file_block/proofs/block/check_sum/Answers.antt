@@ -15,32 +15,11 @@ loop-i-init c = search rules
 pub bounds-block-i : goal.bounds-block-i
 bounds-block-i c = omega (arith, c.requires)
 
-pub overflow_cast-sum : goal.overflow_cast-sum
-overflow_cast-sum c = omega (arith, c.shared_slice_known-1.given c.loop-i.i)
-
 pub overflow_add-sum : goal.overflow_add-sum
 overflow_add-sum c = omega arith
 
 pub overflow_cast-sum-in-loop-i : goal.overflow_cast-sum-in-loop-i
 overflow_cast-sum-in-loop-i c = omega arith
-
-pub overflow_mul-sum : goal.overflow_mul-sum
-overflow_mul-sum c =
-    let at = c in
-    let block = at.args.block.now in
-    let i = at.loop-i.i in
-    let byte : get_or block i 0 < 256 = omega (arith, c.shared_slice_known-1.given i) in
-    let most = term_most (get_or block i 0) i byte (omega arith) in
-    omega arith
-
-pub overflow_add-sum-in-loop-i : goal.overflow_add-sum-in-loop-i
-overflow_add-sum-in-loop-i c =
-    let at = c in
-    let block = at.args.block.now in
-    let i = at.loop-i.i in
-    let byte : get_or block i 0 < 256 = omega (arith, c.shared_slice_known-1.given i) in
-    let most = term_most (get_or block i 0) i byte (omega arith) in
-    omega (arith, at.loop-i.invariant.2)
 
 pub overflow_step-i : goal.overflow_step-i
 overflow_step-i c = omega arith
@@ -50,13 +29,12 @@ loop-i-smaller c = omega arith
 
 pub loop-i-preserved : goal.loop-i-preserved
 loop-i-preserved c =
-    let at = c in
-    let block = at.args.block.now in
-    let i = at.loop-i.i in
-    let byte : get_or block i 0 < 256 = omega (arith, c.shared_slice_known-1.given i) in
+    let block = c.args.block.now in
+    let i = c.loop-i.i in
+    let byte : get_or block i 0 < 256 = omega (arith, c.type_inv.block i) in
     let most = term_most (get_or block i 0) i byte (omega arith) in
-    let below : i < length block = omega (arith, at.requires) in
-    (omega arith, ap (λ (s : ℕ). s + get_or block i 0 * (i + 1)) at.loop-i.invariant.1 ∙ weighed-next block i below, omega (arith, at.loop-i.invariant.2))
+    let below : i < length block = omega (arith, c.requires) in
+    (omega arith, ap (λ (s : ℕ). s + get_or block i 0 * (i + 1)) c.loop-i.invariant.1 ∙ weighed-next block i below, omega (arith, c.loop-i.invariant.2))
 
 pub returns : goal.returns
 returns c =

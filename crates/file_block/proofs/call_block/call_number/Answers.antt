@@ -17,9 +17,6 @@ returns-then-not-checks c =
     let wrong : checks c.args.block.now ≡ false = sym c.checks.ensures ∙ c.if-not-checks.true in
     rw wrong
 
-pub overflow_cast-many : goal.overflow_cast-many
-overflow_cast-many c = omega (arith, c.shared_slice_known-2-1.given 0)
-
 pub returns-then-many-eq0 : goal.returns-then-many-eq0
 returns-then-many-eq0 c =
     let start = c in

@@ -8,14 +8,8 @@ use Rattle.file_spec.specs.CallBlock.{many_in}
 use Rattle.file_block.proofs.Pieces.{ends_in_load_lem, ends_in-none}
 use Rattle.file_block.proofs.call_block.ends_in_load.Goals as goal
 
-pub overflow_cast-many : goal.overflow_cast-many
-overflow_cast-many c = omega (arith, c.shared_slice_known-1.given 0)
-
 pub returns-then-many-eq0 : goal.returns-then-many-eq0
 returns-then-many-eq0 c = sym (ends_in-none c.args.block.now c.if-many-eq0.true)
-
-pub overflow_mul-at : goal.overflow_mul-at
-overflow_mul-at c = omega (arith, c.shared_slice_known-1.given 0)
 
 pub returns-then-at-ge512 : goal.returns-then-at-ge512
 returns-then-at-ge512 c =

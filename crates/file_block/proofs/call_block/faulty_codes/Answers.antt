@@ -18,9 +18,6 @@ use Rattle.file_block.proofs.call_block.faulty_codes.Goals as goal
 pub bounds-block-0 : goal.bounds-block-0
 bounds-block-0 c = omega (arith, c.requires.full)
 
-pub overflow_cast-many : goal.overflow_cast-many
-overflow_cast-many c = omega (arith, c.shared_slice_known-2-1.given 0)
-
 pub loop-i-init : goal.loop-i-init
 unfolding any_of
 loop-i-init c = search rules

@@ -18,9 +18,6 @@ use Rattle.file_block.proofs.call_block.load_before_last.Goals as goal
 pub bounds-block-0 : goal.bounds-block-0
 bounds-block-0 c = omega (arith, c.requires.full)
 
-pub overflow_cast-last : goal.overflow_cast-last
-overflow_cast-last c = omega (arith, c.shared_slice_known-1.given 0)
-
 pub overflow_sub-last : goal.overflow_sub-last
 overflow_sub-last c = c.requires.some
 

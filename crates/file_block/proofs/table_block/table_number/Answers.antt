@@ -19,15 +19,6 @@ returns-then-not-checks c =
     let wrong : checks c.args.block.now ≡ false = sym c.checks.ensures ∙ c.if-not-checks.true in
     rw wrong
 
-pub overflow_cast-end : goal.overflow_cast-end
-overflow_cast-end c = omega (arith, c.shared_slice_known-2-1.given 1)
-
-pub overflow_mul-end : goal.overflow_mul-end
-overflow_mul-end c = omega (arith, c.shared_slice_known-2-1.given 1)
-
-pub overflow_add-end : goal.overflow_add-end
-overflow_add-end c = omega (arith, c.shared_slice_known-2-1.given 1)
-
 pub in_range-requires : goal.in_range-requires
 in_range-requires c = tt
 
