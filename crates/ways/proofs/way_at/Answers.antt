@@ -53,4 +53,4 @@ returns c =
     let all : counted.count_from.result ≡ length (ways a.t) = counted.count_from.ensures ∙ ap (λ (at : At). length (ways_from 8 at a.t)) same in
     way_found a.t a.place (sym asked.ways_number-number.ensures ∙ placed.if-number-ne0.false) (omega (arith, all, picked.if-count_from-place.false)) _ _
     (ends.list ∙ ap (λ (at : At). get_or (ways_from 8 at a.t) a.place []) same)
-    (to_z-of_z w64 c.end_sum.result (record { sfits = c.end_sum.type-inv }) ∙ c.end_sum.ensures ∙ ap end_sum ends.behind ∙ ap (λ (at : At). end_sum (run a.t (plays at (get_or (ways_from 8 at a.t) a.place [])))) same)
+    (to_z-of_z w64 c.end_sum.result (record { sfits = c.end_sum.type_inv }) ∙ c.end_sum.ensures ∙ ap end_sum ends.behind ∙ ap (λ (at : At). end_sum (run a.t (plays at (get_or (ways_from 8 at a.t) a.place [])))) same)

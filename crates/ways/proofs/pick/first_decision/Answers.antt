@@ -12,6 +12,7 @@ use Rattle.ways.specs.Ways.{ways_from}
 use Rattle.ways.proofs.Counting.{begun, goes_length, place-next}
 use Rattle.ways.proofs.Turns.{tried-whole, tried-begun, tried-none, tried_goes_on}
 use Rattle.ways.proofs.pick.first_decision.Goals as goal
+use Rattle.ways.proofs.pick.first_decision.Goals.{then-o-eq0+else-rest-many, else-o-eq0}
 
 pub loop-i-init : goal.loop-i-init
 unfolding sum_of
@@ -38,7 +39,7 @@ returns-then-rest-many c =
     let a = start.args in
     let rest : at.loop-i.rest < length (ways_from a.left a.at called.tried-o.result.table) = omega (arith, c.count_from-many.ensures) in
     tried_goes_on a.t a.at called.kind_at-kind.result called.tried-o.result called.tried-o.ensures a.left at.loop-i.i called.kind_at-kind.ensures a.place at.loop-i.rest
-    (omega arith) start.requires.few.1.0 at.loop-i.invariant.1 c.if-o-eq0.true rest
+    (omega arith) start.requires.waits at.loop-i.invariant.1 c.if-o-eq0.true rest
 
 pub overflow_step-i : goal.overflow_step-i
 overflow_step-i c = omega arith
@@ -57,11 +58,17 @@ loop-i-preserved c =
     let each = begun a.left a.at a.t in
     let same = called.kind_at-kind.ensures in
     let told = called.tried-o.ensures in
-    let o = called.tried-o.result in
-    let next =
-    ⊎_elim (λ w. place-next each i a.place at.loop-i.rest w.2.result c.if-o-eq0.rest (omega arith) at.loop-i.invariant.1 (w.2.ensures ∙ tried-begun a.t a.at kind o told a.left i same w.0.taken) (omega arith) w.4)
-    (λ w. place-next each i a.place at.loop-i.rest 0 c.if-o-eq0.rest (omega arith) at.loop-i.invariant.1 (sym (tried-none a.t a.at kind o told a.left i same w.0.left)) (omega arith) (omega (arith, w.1))) c.if-o-eq0.branch in
-    (omega arith, next)
+    let o = called.tried-o.result in (
+      omega arith,
+      elim c.if-o-eq0.branch [
+        | then-o-eq0+else-rest-many w ↦
+            place-next each i a.place at.loop-i.rest w.count_from-many.result c.if-o-eq0.rest (omega arith) at.loop-i.invariant.1
+            (w.count_from-many.ensures ∙ tried-begun a.t a.at kind o told a.left i same w.if-o-eq0.true) (omega (arith, w.if-rest-many.false)) w.rest-is
+        | else-o-eq0 w ↦
+            place-next each i a.place at.loop-i.rest 0 c.if-o-eq0.rest (omega arith) at.loop-i.invariant.1 (sym (tried-none a.t a.at kind o told a.left i same w.if-o-eq0.false)) (omega arith)
+            (omega (arith, w.rest-is))
+      ],
+    )
 
 pub returns : goal.returns
 returns c =
@@ -69,5 +76,5 @@ returns c =
     let start = at in
     let a = start.args in
     let done : at.loop-i.i ≡ 6 = omega arith in
-    let all = goes_length a.at a.t a.left start.requires.few.1.0 in
-    absurd (omega (arith, start.requires.few.1.1, all, at.loop-i.invariant.1, ap (λ (n : ℕ). sum_of (begun a.left a.at a.t) (take n decision_kinds)) done))
+    let all = goes_length a.at a.t a.left start.requires.waits in
+    absurd (omega (arith, start.requires.inside, all, at.loop-i.invariant.1, ap (λ (n : ℕ). sum_of (begun a.left a.at a.t) (take n decision_kinds)) done))

@@ -24,7 +24,7 @@ first_decision-n-requires c =
     let now : 8 - n ≡ suc (7 - n) = omega arith in
     let inside = subst (λ (k : ℕ). at.loop-length.rest < length (ways_from k a.at at.loop-length.table)) now at.loop-length.invariant.inside in
     let waits = some_waits_lem (suc (7 - n)) a.at at.loop-length.table (omega arith) (λ e. c.if-close_number-eq0.false (c.close_number.ensures ∙ e)) in
-    (at.loop-length.invariant.whole, (omega arith, (waits, inside)))
+    record { whole = at.loop-length.invariant.whole; few = omega arith; waits = waits; inside = inside }
 
 pub bounds-decisions-length : goal.bounds-decisions-length
 bounds-decisions-length c = omega arith
