@@ -2,38 +2,44 @@
 // length in two bytes, its bytes. The expected lines, in the file stdout, are worked out from the request by hand.
 #![tactic(auto)]
 
-ghost use Rattle.std.specs.Prelude.{◌<◌, length};
+ghost use Rattle.std.specs.Prelude.{◌<◌, length, IfOk};
 
-use libc::{STDIN_FILENO, STDOUT_FILENO};
 use script::end_of;
 use session_file::number::file_number;
 use session_file::reader::{byte_at, part};
+use std::io;
+use std::io::{BufWriter, Read, Write};
+
+// As many bytes as are read.
+const ROOM: u64 = 65536;
 
 // One file, and the place behind it.
-fn one(files: &[u8], at: usize) -> usize
+fn one<W: Write>(out: &mut W, files: &[u8], at: usize) -> io::Result<usize>
     requires { at < length files.now }
-    ensures { at < result }
+    ensures { IfOk result (λ behind. at < behind) }
 {
     let end = end_of(files, at);
     let name = part(files, at, end - at);
     let many = (byte_at(files, end + 1) as usize) + 256 * (byte_at(files, end + 2) as usize);
     let number = file_number(part(files, end + 3, many));
-    io::print_decimal(STDOUT_FILENO, number as u64);
-    io::write_all(STDOUT_FILENO, b" ");
-    io::write_all(STDOUT_FILENO, name);
-    io::write_all(STDOUT_FILENO, b"\n");
-    end + 3 + many
+    write!(out, "{number} ")?;
+    out.write_all(name)?;
+    out.write_all(b"\n")?;
+    Ok(end + 3 + many)
 }
 
-fn each(files: &[u8]) {
+fn each<W: Write>(out: &mut W, files: &[u8]) -> io::Result<()> {
     let mut at: usize = 0;
     while at < files.len() {
-        at = one(files, at);
+        at = one(out, files, at)?;
     }
+    Ok(())
 }
 
-fn main() {
-    let mut files = io::large_buffer();
-    let n = io::read_full(STDIN_FILENO, &mut files);
-    each(&files[..n]);
+fn main(rt: HostRuntime) -> io::Result<()> {
+    let mut files = Vec::new(rt.alloc());
+    rt.stdin().take(ROOM).read_to_end(&mut files)?;
+    let mut out = BufWriter::new(rt.alloc(), io::writer(&rt))?;
+    each(&mut out, &files)?;
+    out.flush()
 }

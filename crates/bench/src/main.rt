@@ -5,7 +5,7 @@ use broken::broken;
 use call::pay_line::LINES;
 use cashier::opening::opening;
 use engine::step;
-use libc::STDOUT_FILENO;
+use std::io;
 use table::Table;
 use workload::calls_asked;
 use workload::checksum::of_step;
@@ -51,11 +51,8 @@ fn played(calls: u64) -> u64 {
     whole(sum, broken(t))
 }
 
-fn main() {
-    let calls = calls_asked();
+fn main(rt: HostRuntime) -> io::Result<()> {
+    let calls = calls_asked(&rt);
     let sum = played(calls);
-    io::print_decimal(STDOUT_FILENO, calls);
-    io::write_all(STDOUT_FILENO, b" calls, checksum ");
-    io::print_decimal(STDOUT_FILENO, sum);
-    io::write_all(STDOUT_FILENO, b"\n");
+    println!(rt; "{calls} calls, checksum {sum}")
 }

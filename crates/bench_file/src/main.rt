@@ -9,8 +9,8 @@ ghost use Rattle.std.specs.Prelude.{◌≤◌};
 
 use crate::replays::{Replay, replayed};
 use crate::writing::{ROOM, written_session};
-use libc::STDOUT_FILENO;
 use session_file::reader::part;
+use std::io;
 use workload::calls_asked;
 use workload::checksum::of_table;
 
@@ -25,15 +25,14 @@ fn passes(bytes: &[u8; ROOM], end: usize, begun: Replay) -> Replay
     replayed(part(bytes, 0, end), begun)
 }
 
-fn main() {
-    let calls = calls_asked();
+fn main(rt: HostRuntime) -> io::Result<()> {
+    let calls = calls_asked(&rt);
     let mut bytes = room();
     let s = written_session(&mut bytes);
     let table = s.table;
     let begun = Replay { table, left: calls };
     let last = passes(&bytes, s.end, begun);
-    io::print_decimal(STDOUT_FILENO, calls - last.left);
-    io::write_all(STDOUT_FILENO, b" calls replayed, checksum ");
-    io::print_decimal(STDOUT_FILENO, of_table(last.table));
-    io::write_all(STDOUT_FILENO, b"\n");
+    let replayed = calls - last.left;
+    let sum = of_table(last.table);
+    println!(rt; "{replayed} calls replayed, checksum {sum}")
 }

@@ -7,6 +7,8 @@ use faces_left::faces_left;
 use script::named::{cards_named, many_named};
 use script::orders::{Order, begun_order};
 use script::{card, digit, end_of};
+use std::io;
+use std::io::Write;
 
 // The cards from 21 on, as a pack.
 fn pack(row: &[u8]) -> [u8; 52]
@@ -29,55 +31,55 @@ fn order(row: &[u8], decks: u8) -> Order
 }
 
 // The up card and the faces left are those of the table.
-fn of_table(row: &[u8])
+fn of_table<W: Write>(out: &mut W, row: &[u8]) -> io::Result<()>
     requires { 21 ≤ length row.now }
 {
     let decks = digit(row[5]);
     let t = tables::dealt(digit(row[9]), decks, digit(row[11]), order(row, decks));
     let found = faces_left(t);
     if found.number != 0 {
-        lines::refused(found.number);
-        return;
+        return lines::refused(out, found.number);
     }
     let left = found.left;
-    lines::answer(chances(found.up, left, digit(row[7])));
+    lines::answer(out, chances(found.up, left, digit(row[7])))
 }
 
-fn question(row: &[u8])
+fn question<W: Write>(out: &mut W, row: &[u8]) -> io::Result<()>
     requires { 21 ≤ length row.now }
 {
     let letter = row[0];
     let up = card(row[2], row[3]);
     let decks = digit(row[5]);
     let depth = digit(row[7]);
-    lines::heading(row);
+    lines::heading(out, row)?;
     match letter {
-        b'd' => lines::answer(chances(up, packs::decks_less(decks, up), depth)),
-        b'x' => lines::answer(chances(52, packs::decks_less(decks, 52), depth)),
-        b'p' => lines::answer(chances(up, pack(row), depth)),
-        _ => of_table(row),
+        b'd' => lines::answer(out, chances(up, packs::decks_less(decks, up), depth)),
+        b'x' => lines::answer(out, chances(52, packs::decks_less(decks, 52), depth)),
+        b'p' => lines::answer(out, chances(up, pack(row), depth)),
+        _ => of_table(out, row),
     }
 }
 
 // A row that begins with # is words.
-fn row_answered(row: &[u8])
+fn row_answered<W: Write>(out: &mut W, row: &[u8]) -> io::Result<()>
     requires { 21 ≤ length row.now }
 {
     let letter = row[0];
     match letter {
-        b'#' => {}
-        _ => question(row),
+        b'#' => Ok(()),
+        _ => question(out, row),
     }
 }
 
 // Each row long enough to be one.
-pub(crate) fn each(text: &[u8]) {
+pub(crate) fn each<W: Write>(out: &mut W, text: &[u8]) -> io::Result<()> {
     let mut at = 0;
     while at < text.len() {
         let end = end_of(text, at);
         if 21 <= end - at {
-            row_answered(&text[at..end]);
+            row_answered(out, &text[at..end])?;
         }
         at = end + 1;
     }
+    Ok(())
 }

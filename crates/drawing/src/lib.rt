@@ -9,138 +9,141 @@ use dealer_screen::{Screen, shown_screen};
 use display::seat::shown_seat;
 use display::{TableShown, shown_table, shown_turn};
 use stage::write::{cards, counted, figure, words};
+use std::io;
+use std::io::Write;
 use table::Table;
 
 // A field that is lit.
-fn field(lit: bool, name: &[u8]) {
+fn field<W: Write>(out: &mut W, lit: bool, name: &[u8]) -> io::Result<()> {
     if lit {
-        words(name);
+        return words(out, name);
     }
+    Ok(())
 }
 
 // The lit fields of a guest.
-fn fields(l: Lights) {
-    field(l.buy, b" buy");
-    field(l.cash, b" cash");
-    field(l.stake, b" stake");
-    field(l.pair, b" pair");
-    field(l.sevens, b" sevens");
-    field(l.more, b" more");
-    field(l.less, b" less");
-    field(l.insure, b" insure");
-    field(l.stand, b" stand");
-    field(l.draw, b" draw");
-    field(l.double, b" double");
-    field(l.split, b" split");
-    field(l.surrender, b" surrender");
-    field(l.even, b" even");
-    field(l.five, b" five");
+fn fields<W: Write>(out: &mut W, l: Lights) -> io::Result<()> {
+    field(out, l.buy, b" buy")?;
+    field(out, l.cash, b" cash")?;
+    field(out, l.stake, b" stake")?;
+    field(out, l.pair, b" pair")?;
+    field(out, l.sevens, b" sevens")?;
+    field(out, l.more, b" more")?;
+    field(out, l.less, b" less")?;
+    field(out, l.insure, b" insure")?;
+    field(out, l.stand, b" stand")?;
+    field(out, l.draw, b" draw")?;
+    field(out, l.double, b" double")?;
+    field(out, l.split, b" split")?;
+    field(out, l.surrender, b" surrender")?;
+    field(out, l.even, b" even")?;
+    field(out, l.five, b" five")
 }
 
 // The three guests of a seat, side by side.
-fn seat(number: usize, s: SeatLights) {
+fn seat<W: Write>(out: &mut W, number: usize, s: SeatLights) -> io::Result<()> {
     let seated = s.guests[0];
     let one = s.guests[1];
     let other = s.guests[2];
-    counted(b"  seat", number as u64);
-    words(b" |");
-    fields(seated);
-    words(b" |");
-    fields(one);
-    words(b" |");
-    fields(other);
-    words(b"\n");
+    counted(out, b"  seat", number as u64)?;
+    words(out, b" |")?;
+    fields(out, seated)?;
+    words(out, b" |")?;
+    fields(out, one)?;
+    words(out, b" |")?;
+    fields(out, other)?;
+    words(out, b"\n")
 }
 
-fn seats(screen: Screen, many: u8) {
+fn seats<W: Write>(out: &mut W, screen: Screen, many: u8) -> io::Result<()> {
     for i in 0usize..9 {
         if i < (many as usize) {
             let s = screen.seats[i];
-            seat(i, s);
+            seat(out, i, s)?;
         }
     }
+    Ok(())
 }
 
 // A row: its number from 1, seat, place, cards and total.
-fn row(number: usize, r: Row) {
+fn row<W: Write>(out: &mut W, number: usize, r: Row) -> io::Result<()> {
     let hand = r.hand;
-    words(b"  row");
-    figure(number as u64);
-    counted(b": seat", r.seat as u64);
-    counted(b" hand", r.place as u64);
-    cards(hand);
-    figure(r.total as u64);
-    words(b"\n");
+    words(out, b"  row")?;
+    figure(out, number as u64)?;
+    counted(out, b": seat", r.seat as u64)?;
+    counted(out, b" hand", r.place as u64)?;
+    cards(out, hand)?;
+    figure(out, r.total as u64)?;
+    words(out, b"\n")
 }
 
 // The rows that show a hand, and the seventh line.
-fn rows(screen: Screen) {
+fn rows<W: Write>(out: &mut W, screen: Screen) -> io::Result<()> {
     let n = screen.shown;
     for i in 0usize..6 {
         if i < n {
             let r = screen.rows[i];
-            row(i + 1, r);
+            row(out, i + 1, r)?;
         }
     }
-    counted(b"  hands beyond", screen.beyond as u64);
-    words(b"\n");
+    counted(out, b"  hands beyond", screen.beyond as u64)?;
+    words(out, b"\n")
 }
 
 // Whose turn it is.
-fn turn(t: Table) {
+fn turn<W: Write>(out: &mut W, t: Table) -> io::Result<()> {
     let shown = shown_turn(t);
     if !shown.somebody {
-        words(b", nobody's turn\n");
-        return;
+        return words(out, b", nobody's turn\n");
     }
-    counted(b", turn of seat", shown.seat as u64);
-    counted(b" hand", shown.place as u64);
-    words(b"\n");
+    counted(out, b", turn of seat", shown.seat as u64)?;
+    counted(out, b" hand", shown.place as u64)?;
+    words(out, b"\n")
 }
 
 // The shoe, the up card and the turn.
-fn round(t: Table, shown: TableShown) {
+fn round<W: Write>(out: &mut W, t: Table, shown: TableShown) -> io::Result<()> {
     let bank: Hand = shown.bank;
-    counted(b"  cards left", shown.left as u64);
-    words(b", bank shows");
+    counted(out, b"  cards left", shown.left as u64)?;
+    words(out, b", bank shows")?;
     if bank.count == 0 {
-        words(b" nothing");
+        words(out, b" nothing")?;
     } else {
-        cards(bank);
+        cards(out, bank)?;
     }
-    turn(t);
+    turn(out, t)
 }
 
 // What the guest's own display has.
-fn guest(t: Table, at: At) {
+fn guest<W: Write>(out: &mut W, t: Table, at: At) -> io::Result<()> {
     let g = shown_seat(t, at.seat, at.position);
-    counted(b"  display of seat", at.seat as u64);
-    counted(b" guest", at.position as u64);
-    counted(b": purse", g.purse);
-    counted(b", stake", g.stake as u64);
-    counted(b", insurance", g.insurance as u64);
-    counted(b", layout", g.layout);
-    counted(b", prizes", g.prizes);
-    counted(b", hands", g.hands as u64);
-    words(b"\n");
+    counted(out, b"  display of seat", at.seat as u64)?;
+    counted(out, b" guest", at.position as u64)?;
+    counted(out, b": purse", g.purse)?;
+    counted(out, b", stake", g.stake as u64)?;
+    counted(out, b", insurance", g.insurance as u64)?;
+    counted(out, b", layout", g.layout)?;
+    counted(out, b", prizes", g.prizes)?;
+    counted(out, b", hands", g.hands as u64)?;
+    words(out, b"\n")
 }
 
 // The cashier's line.
-fn cashier(shown: TableShown) {
-    counted(b"  cashier: tray", shown.tray);
-    counted(b", layout", shown.layout);
-    counted(b", purses", shown.purses);
-    words(b"\n");
+fn cashier<W: Write>(out: &mut W, shown: TableShown) -> io::Result<()> {
+    counted(out, b"  cashier: tray", shown.tray)?;
+    counted(out, b", layout", shown.layout)?;
+    counted(out, b", purses", shown.purses)?;
+    words(out, b"\n")
 }
 
 // Everything that is seen of a table: the screen, that guest's display, the cashier's line.
-pub fn drawn(t: Table, at: At) {
+pub fn drawn<W: Write>(out: &mut W, t: Table, at: At) -> io::Result<()> {
     let shown = shown_table(t);
     let options = shown.options;
     let screen = shown_screen(t);
-    round(t, shown);
-    seats(screen, options.seats);
-    rows(screen);
-    guest(t, at);
-    cashier(shown);
+    round(out, t, shown)?;
+    seats(out, screen, options.seats)?;
+    rows(out, screen)?;
+    guest(out, t, at)?;
+    cashier(out, shown)
 }

@@ -7,6 +7,8 @@ use script::end_of;
 use stage::calls::{amount_of, call_of, guest_of, played};
 use stage::houses::{opened, ordered};
 use stage::{Stage, first_stage};
+use std::io;
+use std::io::Write;
 
 // An opening: the next rows play on its table.
 fn row_opened(s: Stage, row: &[u8]) -> Stage {
@@ -18,45 +20,57 @@ fn row_opened(s: Stage, row: &[u8]) -> Stage {
 }
 
 // A call; where it is refused its number is written.
-fn row_called(s: Stage, row: &[u8], names: &mut [u32; LINES], nets: &mut [i64; LINES]) -> Stage
+fn row_called<W: Write>(
+    out: &mut W,
+    s: Stage,
+    row: &[u8],
+    names: &mut [u32; LINES],
+    nets: &mut [i64; LINES],
+) -> io::Result<Stage>
     requires { 21 ≤ length row.now }
 {
     let c = call_of(row[0], guest_of(row), amount_of(row));
     let after = played(s, c, names, nets);
     let table = after.table;
     let answer = after.answer;
-    lines::refused(answer.number);
+    lines::refused(out, answer.number)?;
     let mut next = s;
     next.table = table;
-    next
+    Ok(next)
 }
 
-fn row_played(s: Stage, row: &[u8], names: &mut [u32; LINES], nets: &mut [i64; LINES]) -> Stage
+fn row_played<W: Write>(
+    out: &mut W,
+    s: Stage,
+    row: &[u8],
+    names: &mut [u32; LINES],
+    nets: &mut [i64; LINES],
+) -> io::Result<Stage>
     requires { 21 ≤ length row.now }
 {
     let letter = row[0];
     match letter {
-        b'#' => s,
+        b'#' => Ok(s),
         b'=' => {
-            lines::heading(&row[21..]);
-            s
+            lines::heading(out, &row[21..])?;
+            Ok(s)
         }
         b'W' => {
-            lines::every_way(s.table);
-            s
+            lines::every_way(out, s.table)?;
+            Ok(s)
         }
         b'N' => {
-            lines::counted_ways(s.table);
-            s
+            lines::counted_ways(out, s.table)?;
+            Ok(s)
         }
-        b'o' => ordered(s, row),
-        b'O' => row_opened(s, row),
-        _ => row_called(s, row, names, nets),
+        b'o' => Ok(ordered(s, row)),
+        b'O' => Ok(row_opened(s, row)),
+        _ => row_called(out, s, row, names, nets),
     }
 }
 
 // Each row long enough to be one.
-pub(crate) fn each(text: &[u8]) {
+pub(crate) fn each<W: Write>(out: &mut W, text: &[u8]) -> io::Result<()> {
     let mut s = first_stage();
     let mut names = [0u32; LINES];
     let mut nets = [0i64; LINES];
@@ -64,8 +78,9 @@ pub(crate) fn each(text: &[u8]) {
     while at < text.len() {
         let end = end_of(text, at);
         if 21 <= end - at {
-            s = row_played(s, &text[at..end], &mut names, &mut nets);
+            s = row_played(out, s, &text[at..end], &mut names, &mut nets)?;
         }
         at = end + 1;
     }
+    Ok(())
 }

@@ -3,62 +3,63 @@ use call::At;
 use host::shown::shown_card;
 use host_spec::Hosted;
 use stage::write::{counted, figure, net, words};
+use std::io;
+use std::io::Write;
 
-pub(crate) fn heading(text: &[u8]) {
-    words(text);
-    words(b"\n");
+pub(crate) fn heading<W: Write>(out: &mut W, text: &[u8]) -> io::Result<()> {
+    words(out, text)?;
+    words(out, b"\n")
 }
 
-fn decision(letter: u8) {
+fn decision<W: Write>(out: &mut W, letter: u8) -> io::Result<()> {
     match letter {
-        b'i' => words(b"insure"),
-        b'n' => words(b"stand"),
-        b'd' => words(b"draw"),
-        b'2' => words(b"double"),
-        b'p' => words(b"split"),
-        b'C' => words(b"close"),
-        b'V' => words(b"void"),
-        _ => words(b"load"),
+        b'i' => words(out, b"insure"),
+        b'n' => words(out, b"stand"),
+        b'd' => words(out, b"draw"),
+        b'2' => words(out, b"double"),
+        b'p' => words(out, b"split"),
+        b'C' => words(out, b"close"),
+        b'V' => words(out, b"void"),
+        _ => words(out, b"load"),
     }
 }
 
 // What the letter of a row stands for.
-fn name(letter: u8) {
+fn name<W: Write>(out: &mut W, letter: u8) -> io::Result<()> {
     match letter {
-        b'a' | b'z' => words(b"arrive"),
-        b'l' | b'y' => words(b"leave"),
-        b'O' => words(b"open"),
-        b'f' => words(b"fill"),
-        b'b' => words(b"buy"),
-        b's' => words(b"stake"),
-        b'A' | b'B' | b'E' | b'F' => words(b"side"),
-        b'D' => words(b"deal"),
-        _ => decision(letter),
+        b'a' | b'z' => words(out, b"arrive"),
+        b'l' | b'y' => words(out, b"leave"),
+        b'O' => words(out, b"open"),
+        b'f' => words(out, b"fill"),
+        b'b' => words(out, b"buy"),
+        b's' => words(out, b"stake"),
+        b'A' | b'B' | b'E' | b'F' => words(out, b"side"),
+        b'D' => words(out, b"deal"),
+        _ => decision(out, letter),
     }
 }
 
 // The name, the number, and the words of the script.
-pub(crate) fn called(letter: u8, number: u8, what: &[u8]) {
-    name(letter);
-    figure(number as u64);
-    words(b" | ");
-    words(what);
-    words(b"\n");
+pub(crate) fn called<W: Write>(out: &mut W, letter: u8, number: u8, what: &[u8]) -> io::Result<()> {
+    name(out, letter)?;
+    figure(out, number as u64)?;
+    words(out, b" | ")?;
+    words(out, what)?;
+    words(out, b"\n")
 }
 
 // What a display has of the card at a position.
-pub(crate) fn card(h: Hosted, at: At) {
+pub(crate) fn card<W: Write>(out: &mut W, h: Hosted, at: At) -> io::Result<()> {
     let shown = shown_card(h, at.seat, at.position);
-    counted(b"  seat", at.seat as u64);
-    counted(b" position", at.position as u64);
+    counted(out, b"  seat", at.seat as u64)?;
+    counted(out, b" position", at.position as u64)?;
     if !shown.here {
-        words(b" no card\n");
-        return;
+        return words(out, b" no card\n");
     }
-    counted(b" card", shown.card);
-    counted(b" rounds", shown.rounds as u64);
-    counted(b" wagered", shown.wagered);
-    words(b" net");
-    net(shown.net);
-    words(b"\n");
+    counted(out, b" card", shown.card)?;
+    counted(out, b" rounds", shown.rounds as u64)?;
+    counted(out, b" wagered", shown.wagered)?;
+    words(out, b" net")?;
+    net(out, shown.net)?;
+    words(out, b"\n")
 }

@@ -8,6 +8,8 @@ use call::pay_line::LINES;
 use script::end_of;
 use stage::calls::{amount_of, guest_of};
 use stage::houses::{opened, ordered};
+use std::io;
+use std::io::Write;
 
 fn row_ordered(r: Room, row: &[u8]) -> Room
     requires { 21 ≤ length row.now }
@@ -19,17 +21,23 @@ fn row_ordered(r: Room, row: &[u8]) -> Room
 }
 
 // An opening: the next rows play on its table, without a card. At 36 stand the words.
-fn row_opened(r: Room, row: &[u8]) -> Room {
+fn row_opened<W: Write>(out: &mut W, r: Room, row: &[u8]) -> io::Result<Room> {
     let o = opened(r.stage, row);
     if row.len() < 36 {
-        lines::called(b'O', o.number, b"");
+        lines::called(out, b'O', o.number, b"")?;
     } else {
-        lines::called(b'O', o.number, &row[36..]);
+        lines::called(out, b'O', o.number, &row[36..])?;
     }
-    with_table(r, o.table)
+    Ok(with_table(r, o.table))
 }
 
-fn row_called(r: Room, row: &[u8], names: &mut [u32; LINES], nets: &mut [i64; LINES]) -> Room
+fn row_called<W: Write>(
+    out: &mut W,
+    r: Room,
+    row: &[u8],
+    names: &mut [u32; LINES],
+    nets: &mut [i64; LINES],
+) -> io::Result<Room>
     requires { 21 ≤ length row.now }
 {
     let c = host_call(row[0], guest_of(row), amount_of(row));
@@ -38,34 +46,40 @@ fn row_called(r: Room, row: &[u8], names: &mut [u32; LINES], nets: &mut [i64; LI
     let cards = order.cards;
     let reply = reply_to(cards, order.count, r.hosted, c, names, nets);
     let answer = reply.answer;
-    lines::called(row[0], answer.number, &row[21..]);
-    with_hosted(r, reply.hosted)
+    lines::called(out, row[0], answer.number, &row[21..])?;
+    Ok(with_hosted(r, reply.hosted))
 }
 
-fn row_played(r: Room, row: &[u8], names: &mut [u32; LINES], nets: &mut [i64; LINES]) -> Room
+fn row_played<W: Write>(
+    out: &mut W,
+    r: Room,
+    row: &[u8],
+    names: &mut [u32; LINES],
+    nets: &mut [i64; LINES],
+) -> io::Result<Room>
     requires { 21 ≤ length row.now }
 {
     let letter = row[0];
     match letter {
-        b'#' => r,
+        b'#' => Ok(r),
         b'=' => {
-            lines::heading(&row[21..]);
-            r
+            lines::heading(out, &row[21..])?;
+            Ok(r)
         }
         b'h' => {
-            lines::card(r.hosted, guest_of(row));
-            r
+            lines::card(out, r.hosted, guest_of(row))?;
+            Ok(r)
         }
-        b'P' => put(r, guest_of(row), amount_of(row), 0),
-        b'T' => put(r, guest_of(row), 7, (amount_of(row) % 10000000) as u32),
-        b'o' => row_ordered(r, row),
-        b'O' => row_opened(r, row),
-        _ => row_called(r, row, names, nets),
+        b'P' => Ok(put(r, guest_of(row), amount_of(row), 0)),
+        b'T' => Ok(put(r, guest_of(row), 7, (amount_of(row) % 10000000) as u32)),
+        b'o' => Ok(row_ordered(r, row)),
+        b'O' => row_opened(out, r, row),
+        _ => row_called(out, r, row, names, nets),
     }
 }
 
 // Each row long enough to be one.
-pub(crate) fn each(text: &[u8]) {
+pub(crate) fn each<W: Write>(out: &mut W, text: &[u8]) -> io::Result<()> {
     let mut r = first_room();
     let mut names = [0u32; LINES];
     let mut nets = [0i64; LINES];
@@ -73,8 +87,9 @@ pub(crate) fn each(text: &[u8]) {
     while at < text.len() {
         let end = end_of(text, at);
         if 21 <= end - at {
-            r = row_played(r, &text[at..end], &mut names, &mut nets);
+            r = row_played(out, r, &text[at..end], &mut names, &mut nets)?;
         }
         at = end + 1;
     }
+    Ok(())
 }

@@ -8,9 +8,10 @@ use call::pay_line::LINES;
 use call::{At, Call};
 use cashier::opening::opening;
 use engine::step;
-use libc::STDOUT_FILENO;
 use options::Options;
 use script::orders::{Order, begun_order};
+use std::io;
+use std::io::{BufWriter, Write};
 use table::Table;
 
 // The table, and how many calls it has accepted.
@@ -60,23 +61,22 @@ fn lent(count: usize) -> usize
     if 416 < count { 416 } else { count }
 }
 
-fn opened(cards: [u8; 416], count: usize) -> Table {
+fn opened<W: Write>(out: &mut W, cards: [u8; 416], count: usize) -> io::Result<Table> {
     let o = opening(house(), &cards[..lent(count)]);
-    refused(o.number);
-    o.table
+    refused(out, o.number)?;
+    Ok(o.table)
 }
 
-fn refused(number: u8) {
+fn refused<W: Write>(out: &mut W, number: u8) -> io::Result<()> {
     if number != 0 {
-        counted(b"refused", number as u64);
+        return counted(out, b"refused", number as u64);
     }
+    Ok(())
 }
 
-fn counted(name: &[u8], n: u64) {
-    io::write_all(STDOUT_FILENO, name);
-    io::write_all(STDOUT_FILENO, b" ");
-    io::print_decimal(STDOUT_FILENO, n);
-    io::write_all(STDOUT_FILENO, b"\n");
+fn counted<W: Write>(out: &mut W, name: &[u8], n: u64) -> io::Result<()> {
+    out.write_all(name)?;
+    writeln!(out, " {n}")
 }
 
 // Only an accepted call counts; there are fewer than a thousand.
@@ -88,13 +88,19 @@ fn counting(calls: u64, number: u8) -> u64 {
 }
 
 // A call on it.
-fn with_call(p: Play, c: Call, names: &mut [u32; LINES], nets: &mut [i64; LINES]) -> Play {
+fn with_call<W: Write>(
+    out: &mut W,
+    p: Play,
+    c: Call,
+    names: &mut [u32; LINES],
+    nets: &mut [i64; LINES],
+) -> io::Result<Play> {
     let reply = step(p.table, c, b"", names, nets);
     let answer = reply.answer;
-    refused(answer.number);
+    refused(out, answer.number)?;
     let table = reply.table;
     let calls = counting(p.calls, answer.number);
-    Play { table, calls }
+    Ok(Play { table, calls })
 }
 
 fn guest(seat: u8, position: u8) -> At {
@@ -110,37 +116,58 @@ fn by_guest(doing: u8, at: At) -> Call {
     }
 }
 
-fn by_all(p: Play, doing: u8, names: &mut [u32; LINES], nets: &mut [i64; LINES]) -> Play {
+fn by_all<W: Write>(
+    out: &mut W,
+    p: Play,
+    doing: u8,
+    names: &mut [u32; LINES],
+    nets: &mut [i64; LINES],
+) -> io::Result<Play> {
     let mut next = p;
     for k in 0u8..27 {
-        next = with_call(next, by_guest(doing, guest(k / 3, k % 3)), names, nets);
+        next = with_call(out, next, by_guest(doing, guest(k / 3, k % 3)), names, nets)?;
     }
-    next
+    Ok(next)
 }
 
-fn all_stand(p: Play, names: &mut [u32; LINES], nets: &mut [i64; LINES]) -> Play {
+fn all_stand<W: Write>(
+    out: &mut W,
+    p: Play,
+    names: &mut [u32; LINES],
+    nets: &mut [i64; LINES],
+) -> io::Result<Play> {
     let mut next = p;
     for seat in 0u8..9 {
-        next = with_call(next, Call::Stand(guest(seat, 0)), names, nets);
+        next = with_call(out, next, Call::Stand(guest(seat, 0)), names, nets)?;
     }
-    next
+    Ok(next)
 }
 
 // A short first round: one seat stakes and stands.
-fn first_round(p: Play, names: &mut [u32; LINES], nets: &mut [i64; LINES]) -> Play {
+fn first_round<W: Write>(
+    out: &mut W,
+    p: Play,
+    names: &mut [u32; LINES],
+    nets: &mut [i64; LINES],
+) -> io::Result<Play> {
     let seated = guest(0, 0);
-    let staked = with_call(p, Call::Stake(seated, 2), names, nets);
-    let dealt = with_call(staked, Call::Deal, names, nets);
-    let stood = with_call(dealt, Call::Stand(seated), names, nets);
-    with_call(stood, Call::Close, names, nets)
+    let staked = with_call(out, p, Call::Stake(seated, 2), names, nets)?;
+    let dealt = with_call(out, staked, Call::Deal, names, nets)?;
+    let stood = with_call(out, dealt, Call::Stand(seated), names, nets)?;
+    with_call(out, stood, Call::Close, names, nets)
 }
 
 // From deal to close.
-fn long_round(p: Play, names: &mut [u32; LINES], nets: &mut [i64; LINES]) -> Play {
-    let dealt = with_call(p, Call::Deal, names, nets);
-    let insured = by_all(dealt, 2, names, nets);
-    let stood = all_stand(insured, names, nets);
-    with_call(stood, Call::Close, names, nets)
+fn long_round<W: Write>(
+    out: &mut W,
+    p: Play,
+    names: &mut [u32; LINES],
+    nets: &mut [i64; LINES],
+) -> io::Result<Play> {
+    let dealt = with_call(out, p, Call::Deal, names, nets)?;
+    let insured = by_all(out, dealt, 2, names, nets)?;
+    let stood = all_stand(out, insured, names, nets)?;
+    with_call(out, stood, Call::Close, names, nets)
 }
 
 // How many cards of the order are drawn.
@@ -153,25 +180,28 @@ fn less(a: u64, b: u64) -> u64 {
     if a < b { 0 } else { a - b }
 }
 
-fn main() {
+fn main(rt: HostRuntime) -> io::Result<()> {
+    let mut out = BufWriter::new(rt.alloc(), io::writer(&rt))?;
     let mut names = [0u32; LINES];
     let mut nets = [0i64; LINES];
     let o = order();
     let cards = o.cards;
-    let table = opened(cards, o.count);
+    let table = opened(&mut out, cards, o.count)?;
     let filled = with_call(
+        &mut out,
         Play { table, calls: 0 },
         Call::Fill(100000),
         &mut names,
         &mut nets,
-    );
-    let bought = by_all(filled, 0, &mut names, &mut nets);
-    let first = first_round(bought, &mut names, &mut nets);
-    let before = by_all(first, 1, &mut names, &mut nets);
-    let after = long_round(before, &mut names, &mut nets);
+    )?;
+    let bought = by_all(&mut out, filled, 0, &mut names, &mut nets)?;
+    let first = first_round(&mut out, bought, &mut names, &mut nets)?;
+    let before = by_all(&mut out, first, 1, &mut names, &mut nets)?;
+    let after = long_round(&mut out, before, &mut names, &mut nets)?;
     let calls = less(after.calls, before.calls);
     let taken = less(drawn(after.table), drawn(before.table));
-    counted(b"accepted calls", calls);
-    counted(b"cards drawn", taken);
-    counted(b"difference", less(calls, taken));
+    counted(&mut out, b"accepted calls", calls)?;
+    counted(&mut out, b"cards drawn", taken)?;
+    counted(&mut out, b"difference", less(calls, taken))?;
+    out.flush()
 }

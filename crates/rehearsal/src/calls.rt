@@ -8,6 +8,8 @@ use call::{At, Call};
 use engine::step;
 use stage::Stage;
 use stage::calls::{amount_of, call_of, guest_of};
+use std::io;
+use std::io::Write;
 use table::Table;
 
 // The seated guest of a seat.
@@ -98,12 +100,13 @@ fn played(
 }
 
 // One row: at 21 stand the words.
-pub(crate) fn called(
+pub(crate) fn called<W: Write>(
+    out: &mut W,
     s: Stage,
     row: &[u8],
     names: &mut [u32; LINES],
     nets: &mut [i64; LINES],
-) -> Stage
+) -> io::Result<Stage>
     requires { 21 ≤ length row.now }
 {
     let letter = row[0];
@@ -111,9 +114,9 @@ pub(crate) fn called(
     let table = after.table;
     let answer = after.answer;
     let aloud = answer.scores;
-    lines::called(letter, answer, names, nets, table, &row[21..]);
+    lines::called(out, letter, answer, names, nets, table, &row[21..])?;
     let mut next = s;
     next.table = table;
     next.aloud = aloud;
-    next
+    Ok(next)
 }

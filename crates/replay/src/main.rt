@@ -3,36 +3,39 @@
 
 mod rows;
 
-use libc::{STDIN_FILENO, STDOUT_FILENO};
 use replaying::open_file;
 use rows::{each, row};
+use std::alloc::{AllocError, Global};
+use std::io;
+use std::io::{BufWriter, Read, Write};
 
 // As many bytes as are read; a longer file is not played in part.
 const ROOM: usize = 1048576;
 
-fn room() -> [u8; ROOM] {
-    [0u8; ROOM]
+fn room(alloc: Global) -> Result<Vec<u8>, AllocError> {
+    Vec::with_capacity(alloc, ROOM)
 }
 
-fn replay(file: &[u8]) {
+fn replay<W: Write>(out: &mut W, file: &[u8]) -> io::Result<()> {
     let first = open_file(file);
     if first.number != 0 {
-        io::print_decimal(STDOUT_FILENO, first.number as u64);
-        io::write_all(STDOUT_FILENO, b"\n");
-        return;
+        let number = first.number;
+        return writeln!(out, "{number}");
     }
-    io::write_all(STDOUT_FILENO, b"call no tray layout purses left\n");
+    out.write_all(b"call no tray layout purses left\n")?;
     let t = first.table;
-    row(b"open", 0, t);
-    each(file, t);
+    row(out, b"open", 0, t)?;
+    each(out, file, t)
 }
 
-fn main() {
-    let mut text = room();
-    let n = io::read_full(STDIN_FILENO, &mut text);
-    if n == ROOM {
-        io::write_all(STDOUT_FILENO, b"the file is too long for this program\n");
-        return;
+fn main(rt: HostRuntime) -> io::Result<()> {
+    let mut text = room(rt.alloc())?;
+    rt.stdin().take(ROOM as u64).read_to_end(&mut text)?;
+    let mut out = BufWriter::new(rt.alloc(), io::writer(&rt))?;
+    if text.len() == ROOM {
+        out.write_all(b"the file is too long for this program\n")?;
+    } else {
+        replay(&mut out, &text)?;
     }
-    replay(&text[..n]);
+    out.flush()
 }

@@ -4,10 +4,16 @@
 
 mod rows;
 
-use libc::STDIN_FILENO;
+use std::io;
+use std::io::{BufWriter, Read, Write};
 
-fn main() {
-    let mut text = io::large_buffer();
-    let n = io::read_full(STDIN_FILENO, &mut text);
-    rows::each(&text[..n]);
+// As many bytes as are read.
+const ROOM: u64 = 65536;
+
+fn main(rt: HostRuntime) -> io::Result<()> {
+    let mut text = Vec::new(rt.alloc());
+    rt.stdin().take(ROOM).read_to_end(&mut text)?;
+    let mut out = BufWriter::new(rt.alloc(), io::writer(&rt))?;
+    rows::each(&mut out, &text)?;
+    out.flush()
 }

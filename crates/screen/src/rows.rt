@@ -9,6 +9,8 @@ use stage::calls::{amount_of, call_of, guest_of, played};
 use stage::houses::{opened, ordered};
 use stage::write::{figure, words};
 use stage::{Stage, first_stage};
+use std::io;
+use std::io::Write;
 use table::Table;
 
 // What is kept from row to row: the stage, and whether it is drawn.
@@ -27,33 +29,34 @@ fn on_table(s: Show, t: Table) -> Show {
     next
 }
 
-fn heading(text: &[u8]) {
-    words(text);
-    words(b"\n");
+fn heading<W: Write>(out: &mut W, text: &[u8]) -> io::Result<()> {
+    words(out, text)?;
+    words(out, b"\n")
 }
 
 // The words and the number of a call, then all that is seen of the table after it.
-fn seen(s: Show, number: u8, at: At, what: &[u8]) {
+fn seen<W: Write>(out: &mut W, s: Show, number: u8, at: At, what: &[u8]) -> io::Result<()> {
     if s.quiet {
-        return;
+        return Ok(());
     }
     let stage = s.stage;
-    words(what);
-    words(b":");
-    figure(number as u64);
-    words(b"\n");
-    drawn(stage.table, at);
+    words(out, what)?;
+    words(out, b":")?;
+    figure(out, number as u64)?;
+    words(out, b"\n")?;
+    drawn(out, stage.table, at)
 }
 
 // An opening; at 36 stand the words.
-fn row_opened(s: Show, row: &[u8]) -> Show {
+fn row_opened<W: Write>(out: &mut W, s: Show, row: &[u8]) -> io::Result<Show> {
     if row.len() < 36 {
-        return s;
+        return Ok(s);
     }
     let stage = s.stage;
     let o = opened(stage, row);
     let next = on_table(s, o.table);
     seen(
+        out,
         next,
         o.number,
         At {
@@ -61,12 +64,18 @@ fn row_opened(s: Show, row: &[u8]) -> Show {
             position: 0,
         },
         &row[36..],
-    );
-    next
+    )?;
+    Ok(next)
 }
 
 // A call; at 21 stand the words.
-fn row_called(s: Show, row: &[u8], names: &mut [u32; LINES], nets: &mut [i64; LINES]) -> Show
+fn row_called<W: Write>(
+    out: &mut W,
+    s: Show,
+    row: &[u8],
+    names: &mut [u32; LINES],
+    nets: &mut [i64; LINES],
+) -> io::Result<Show>
     requires { 21 ≤ length row.now }
 {
     let at = guest_of(row);
@@ -75,18 +84,24 @@ fn row_called(s: Show, row: &[u8], names: &mut [u32; LINES], nets: &mut [i64; LI
     let after = played(stage, c, names, nets);
     let answer = after.answer;
     let next = on_table(s, after.table);
-    seen(next, answer.number, at, &row[21..]);
-    next
+    seen(out, next, answer.number, at, &row[21..])?;
+    Ok(next)
 }
 
-fn row_played(s: Show, row: &[u8], names: &mut [u32; LINES], nets: &mut [i64; LINES]) -> Show
+fn row_played<W: Write>(
+    out: &mut W,
+    s: Show,
+    row: &[u8],
+    names: &mut [u32; LINES],
+    nets: &mut [i64; LINES],
+) -> io::Result<Show>
     requires { 21 ≤ length row.now }
 {
     let letter = row[0];
     let mut next = s;
     match letter {
         b'#' => {}
-        b'=' => heading(&row[21..]),
+        b'=' => heading(out, &row[21..])?,
         b'Q' => {
             next.quiet = true;
         }
@@ -97,14 +112,14 @@ fn row_played(s: Show, row: &[u8], names: &mut [u32; LINES], nets: &mut [i64; LI
             let stage = s.stage;
             next.stage = ordered(stage, row);
         }
-        b'O' => return row_opened(s, row),
-        _ => return row_called(s, row, names, nets),
+        b'O' => return row_opened(out, s, row),
+        _ => return row_called(out, s, row, names, nets),
     }
-    next
+    Ok(next)
 }
 
 // Each row long enough to be one.
-pub(crate) fn each(text: &[u8]) {
+pub(crate) fn each<W: Write>(out: &mut W, text: &[u8]) -> io::Result<()> {
     let stage = first_stage();
     let mut s = Show {
         stage,
@@ -116,8 +131,9 @@ pub(crate) fn each(text: &[u8]) {
     while at < text.len() {
         let end = end_of(text, at);
         if 21 <= end - at {
-            s = row_played(s, &text[at..end], &mut names, &mut nets);
+            s = row_played(out, s, &text[at..end], &mut names, &mut nets)?;
         }
         at = end + 1;
     }
+    Ok(())
 }

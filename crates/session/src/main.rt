@@ -6,8 +6,9 @@ use call::{At, Call};
 use cashier::opening::opening;
 use display::shown_table;
 use engine::step;
-use libc::STDOUT_FILENO;
 use options::Options;
+use std::io;
+use std::io::{BufWriter, Write};
 use table::Table;
 
 // One deck, six seats, first burn 1, later 0, four hands, aces 0, double 1, limit 0, insurance 1, five 0, prize 1, shoe, the seated guest decides, cut 0, stakes 2 to 100.
@@ -41,40 +42,41 @@ fn marked_order() -> [u8; 52] {
     ]
 }
 
-fn figure(n: u64) {
-    io::write_all(STDOUT_FILENO, b" ");
-    io::print_decimal(STDOUT_FILENO, n);
+fn figure<W: Write>(out: &mut W, n: u64) -> io::Result<()> {
+    write!(out, " {n}")
 }
 
 // One line: call, number, tray, layout, all purses, cards left.
-fn row(name: &[u8], number: u8, t: Table) {
+fn row<W: Write>(out: &mut W, name: &[u8], number: u8, t: Table) -> io::Result<()> {
     let shown = shown_table(t);
-    io::write_all(STDOUT_FILENO, name);
-    figure(number as u64);
-    figure(shown.tray);
-    figure(shown.layout);
-    figure(shown.purses);
-    figure(shown.left as u64);
-    io::write_all(STDOUT_FILENO, b"\n");
+    out.write_all(name)?;
+    figure(out, number as u64)?;
+    figure(out, shown.tray)?;
+    figure(out, shown.layout)?;
+    figure(out, shown.purses)?;
+    figure(out, shown.left as u64)?;
+    out.write_all(b"\n")
 }
 
 // One call, its line, and the table after it.
-fn play(
+fn play<W: Write>(
+    out: &mut W,
     name: &[u8],
     t: Table,
     c: Call,
     order: &[u8],
     names: &mut [u32; LINES],
     nets: &mut [i64; LINES],
-) -> Table {
+) -> io::Result<Table> {
     let s = step(t, c, order, names, nets);
     let answer = s.answer;
     let next = s.table;
-    row(name, answer.number, next);
-    next
+    row(out, name, answer.number, next)?;
+    Ok(next)
 }
 
-fn main() {
+fn main(rt: HostRuntime) -> io::Result<()> {
+    let mut out = BufWriter::new(rt.alloc(), io::writer(&rt))?;
     let cards = marked_order();
     let order: &[u8] = &cards;
     let at = At {
@@ -83,32 +85,99 @@ fn main() {
     };
     let mut names = [0u32; LINES];
     let mut nets = [0i64; LINES];
-    io::write_all(STDOUT_FILENO, b"call no tray layout purses left\n");
+    out.write_all(b"call no tray layout purses left\n")?;
     let opened = opening(house(), order);
     let mut t = opened.table;
-    row(b"open", opened.number, t);
-    t = play(b"fill", t, Call::Fill(1000), order, &mut names, &mut nets);
-    t = play(b"buy", t, Call::Buy(at, 100), order, &mut names, &mut nets);
+    row(&mut out, b"open", opened.number, t)?;
     t = play(
+        &mut out,
+        b"fill",
+        t,
+        Call::Fill(1000),
+        order,
+        &mut names,
+        &mut nets,
+    )?;
+    t = play(
+        &mut out,
+        b"buy",
+        t,
+        Call::Buy(at, 100),
+        order,
+        &mut names,
+        &mut nets,
+    )?;
+    t = play(
+        &mut out,
         b"stake",
         t,
         Call::Stake(at, 20),
         order,
         &mut names,
         &mut nets,
-    );
-    t = play(b"deal", t, Call::Deal, order, &mut names, &mut nets);
+    )?;
     t = play(
+        &mut out,
+        b"deal",
+        t,
+        Call::Deal,
+        order,
+        &mut names,
+        &mut nets,
+    )?;
+    t = play(
+        &mut out,
         b"insure",
         t,
         Call::Insure(at, 10),
         order,
         &mut names,
         &mut nets,
-    );
-    t = play(b"split", t, Call::Split(at), order, &mut names, &mut nets);
-    t = play(b"double", t, Call::Double(at), order, &mut names, &mut nets);
-    t = play(b"stand", t, Call::Stand(at), order, &mut names, &mut nets);
-    t = play(b"close", t, Call::Close, order, &mut names, &mut nets);
-    play(b"stand", t, Call::Stand(at), order, &mut names, &mut nets);
+    )?;
+    t = play(
+        &mut out,
+        b"split",
+        t,
+        Call::Split(at),
+        order,
+        &mut names,
+        &mut nets,
+    )?;
+    t = play(
+        &mut out,
+        b"double",
+        t,
+        Call::Double(at),
+        order,
+        &mut names,
+        &mut nets,
+    )?;
+    t = play(
+        &mut out,
+        b"stand",
+        t,
+        Call::Stand(at),
+        order,
+        &mut names,
+        &mut nets,
+    )?;
+    t = play(
+        &mut out,
+        b"close",
+        t,
+        Call::Close,
+        order,
+        &mut names,
+        &mut nets,
+    )?;
+    play(
+        &mut out,
+        b"stand",
+        t,
+        Call::Stand(at),
+        order,
+        &mut names,
+        &mut nets,
+    )?;
+    out.flush()
 }

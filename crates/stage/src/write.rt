@@ -2,53 +2,55 @@
 ghost use Rattle.std.specs.Prelude.{◌≤◌, ◌+◌, length};
 
 use cards::hand::{Hand, held};
-use libc::STDOUT_FILENO;
 use script::end_of;
+use std::io;
+use std::io::Write;
 
-pub fn words(text: &[u8]) {
-    io::write_all(STDOUT_FILENO, text);
+pub fn words<W: Write>(out: &mut W, text: &[u8]) -> io::Result<()> {
+    out.write_all(text)
 }
 
-pub fn figure(n: u64) {
-    words(b" ");
-    io::print_decimal(STDOUT_FILENO, n);
+pub fn figure<W: Write>(out: &mut W, n: u64) -> io::Result<()> {
+    write!(out, " {n}")
 }
 
-pub fn counted(name: &[u8], n: u64) {
-    words(name);
-    figure(n);
+pub fn counted<W: Write>(out: &mut W, name: &[u8], n: u64) -> io::Result<()> {
+    words(out, name)?;
+    figure(out, n)
 }
 
 // The line of a text that begins at a place.
-pub fn line_at(text: &[u8], at: usize)
+pub fn line_at<W: Write>(out: &mut W, text: &[u8], at: usize) -> io::Result<()>
     requires { at ≤ length text.now }
 {
     let end = end_of(text, at);
     if at <= end {
-        words(&text[at..end]);
+        return words(out, &text[at..end]);
     }
+    Ok(())
 }
 
 // One letter of a text.
-fn letter_at(text: &[u8], at: usize)
+fn letter_at<W: Write>(out: &mut W, text: &[u8], at: usize) -> io::Result<()>
     requires { at + 1 ≤ length text.now }
 {
-    words(&text[at..at + 1]);
+    words(out, &text[at..at + 1])
 }
 
 // A letter for the rank, one for the suit.
-pub fn card(card: u8) {
-    letter_at(b"A23456789TJQK", (card % 13) as usize);
-    letter_at(b"abcd", (card / 13 % 4) as usize);
+pub fn card<W: Write>(out: &mut W, card: u8) -> io::Result<()> {
+    letter_at(out, b"A23456789TJQK", (card % 13) as usize)?;
+    letter_at(out, b"abcd", (card / 13 % 4) as usize)
 }
 
-pub fn cards(h: Hand) {
+pub fn cards<W: Write>(out: &mut W, h: Hand) -> io::Result<()> {
     let n = held(h);
-    words(b" ");
+    words(out, b" ")?;
     for i in 0usize..n {
         let one = h.cards[i];
-        card(one);
+        card(out, one)?;
     }
+    Ok(())
 }
 
 // How far the net is from nothing.
@@ -70,15 +72,17 @@ fn sign(n: i64) -> usize
 }
 
 // The net with its sign.
-pub fn net(n: i64) {
-    line_at(b" -\n +\n \n", sign(n));
-    io::print_decimal(STDOUT_FILENO, size(n));
+pub fn net<W: Write>(out: &mut W, n: i64) -> io::Result<()> {
+    line_at(out, b" -\n +\n \n", sign(n))?;
+    let far = size(n);
+    write!(out, "{far}")
 }
 
 // A total, and the word soft where an ace counts eleven.
-pub fn score(total: u8, soft: bool) {
-    figure(total as u64);
+pub fn score<W: Write>(out: &mut W, total: u8, soft: bool) -> io::Result<()> {
+    figure(out, total as u64)?;
     if soft {
-        words(b" soft");
+        return words(out, b" soft");
     }
+    Ok(())
 }

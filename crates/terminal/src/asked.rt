@@ -3,6 +3,8 @@ use crate::amounts::{Amount, Guest, amount_in, guest_in};
 use crate::words::{head, is_empty, rest};
 use call::At;
 use stage::write::words;
+use std::io;
+use std::io::Write;
 
 // Whether it is all there, and what it is; 0 stands where nothing is asked.
 #[derive(Clone, Copy)]
@@ -20,97 +22,97 @@ pub(crate) fn first_guest() -> At {
 }
 
 // The word is none of these, or missing.
-pub(crate) fn no_such(word: &[u8], what: &[u8]) {
+pub(crate) fn no_such<W: Write>(out: &mut W, word: &[u8], what: &[u8]) -> io::Result<()> {
     if word.len() == 0 {
-        words(b"That line needs ");
-        words(what);
-        return;
+        words(out, b"That line needs ")?;
+        return words(out, what);
     }
-    words(b"\"");
-    words(word);
-    words(b"\" is not ");
-    words(what);
+    words(out, b"\"")?;
+    words(out, word)?;
+    words(out, b"\" is not ")?;
+    words(out, what)
 }
 
 // Nothing may stand behind what a line needs.
-pub(crate) fn ends(behind: &[u8]) -> bool {
+pub(crate) fn ends<W: Write>(out: &mut W, behind: &[u8]) -> io::Result<bool> {
     if is_empty(behind) {
-        return true;
+        return Ok(true);
     }
-    words(b"There is more on that line than it needs.\n");
-    false
+    words(out, b"There is more on that line than it needs.\n")?;
+    Ok(false)
 }
 
-pub(crate) fn told_amount(word: &[u8]) -> Amount {
+pub(crate) fn told_amount<W: Write>(out: &mut W, word: &[u8]) -> io::Result<Amount> {
     let n = amount_in(word);
     if !n.good {
-        no_such(word, b"an amount: a number of at most 16 digits.\n");
+        no_such(out, word, b"an amount: a number of at most 16 digits.\n")?;
     }
-    n
+    Ok(n)
 }
 
-pub(crate) fn told_guest(word: &[u8]) -> Guest {
+pub(crate) fn told_guest<W: Write>(out: &mut W, word: &[u8]) -> io::Result<Guest> {
     let g = guest_in(word);
     if !g.good {
         no_such(
+            out,
             word,
             b"a seat: a number as 2, or 2.1 for position 1 of seat 2.\n",
-        );
+        )?;
     }
-    g
+    Ok(g)
 }
 
-fn of_amount(behind: &[u8]) -> Asked {
-    let n = told_amount(head(behind));
-    Asked {
-        good: n.good && ends(rest(behind)),
+fn of_amount<W: Write>(out: &mut W, behind: &[u8]) -> io::Result<Asked> {
+    let n = told_amount(out, head(behind))?;
+    Ok(Asked {
+        good: n.good && ends(out, rest(behind))?,
         at: first_guest(),
         amount: n.value,
-    }
+    })
 }
 
-fn of_guest(behind: &[u8]) -> Asked {
-    let g = told_guest(head(behind));
-    Asked {
-        good: g.good && ends(rest(behind)),
+fn of_guest<W: Write>(out: &mut W, behind: &[u8]) -> io::Result<Asked> {
+    let g = told_guest(out, head(behind))?;
+    Ok(Asked {
+        good: g.good && ends(out, rest(behind))?,
         at: g.at,
         amount: 0,
-    }
+    })
 }
 
-fn of_both(behind: &[u8]) -> Asked {
-    let g = told_guest(head(behind));
+fn of_both<W: Write>(out: &mut W, behind: &[u8]) -> io::Result<Asked> {
+    let g = told_guest(out, head(behind))?;
     let at = g.at;
     if !g.good {
-        return Asked {
+        return Ok(Asked {
             good: false,
             at,
             amount: 0,
-        };
+        });
     }
-    let n = of_amount(rest(behind));
-    Asked {
+    let n = of_amount(out, rest(behind))?;
+    Ok(Asked {
         good: n.good,
         at,
         amount: n.amount,
-    }
+    })
 }
 
-fn of_nothing(behind: &[u8]) -> Asked {
-    Asked {
-        good: ends(behind),
+fn of_nothing<W: Write>(out: &mut W, behind: &[u8]) -> io::Result<Asked> {
+    Ok(Asked {
+        good: ends(out, behind)?,
         at: first_guest(),
         amount: 0,
-    }
+    })
 }
 
 // What a call of that kind needs.
-pub(crate) fn told(kind: usize, behind: &[u8]) -> Asked {
+pub(crate) fn told<W: Write>(out: &mut W, kind: usize, behind: &[u8]) -> io::Result<Asked> {
     match kind {
-        1 | 2 => of_amount(behind),
-        6 | 15 | 16 | 17 => of_nothing(behind),
-        8..=14 => of_guest(behind),
-        _ => of_both(behind),
+        1 | 2 => of_amount(out, behind),
+        6 | 15 | 16 | 17 => of_nothing(out, behind),
+        8..=14 => of_guest(out, behind),
+        _ => of_both(out, behind),
     }
 }
 

@@ -2,6 +2,8 @@
 use crate::words::{line_start, place_of};
 use options::Options;
 use stage::write::{counted, line_at, words};
+use std::io;
+use std::io::Write;
 
 fn house_names() -> [u8; 32] {
     *b"marked\nmacau\nbox\nmachine\nlargest"
@@ -93,55 +95,56 @@ pub(crate) fn house_at(place: usize) -> Options {
     }
 }
 
-fn device(device: u8) {
+fn device<W: Write>(out: &mut W, device: u8) -> io::Result<()> {
     match device {
-        1 => words(b", shoe"),
-        2 => words(b", box"),
-        _ => words(b", machine"),
+        1 => words(out, b", shoe"),
+        2 => words(out, b", box"),
+        _ => words(out, b", machine"),
     }
 }
 
-fn small(name: &[u8], n: u8) {
-    counted(name, n as u64);
+fn small<W: Write>(out: &mut W, name: &[u8], n: u8) -> io::Result<()> {
+    counted(out, name, n as u64)
 }
 
-fn cut(n: u16) {
-    counted(b", cut", n as u64);
+fn cut<W: Write>(out: &mut W, n: u16) -> io::Result<()> {
+    counted(out, b", cut", n as u64)
 }
 
-fn stake(name: &[u8], n: u32) {
-    counted(name, n as u64);
+fn stake<W: Write>(out: &mut W, name: &[u8], n: u32) -> io::Result<()> {
+    counted(out, name, n as u64)
 }
 
 // The options by name.
-pub(crate) fn options_line(o: Options) {
-    small(b"seats", o.seats);
-    small(b", decks", o.decks);
-    device(o.device);
-    small(b", first burn", o.first);
-    small(b", later burn", o.later);
-    small(b", hands", o.hands);
-    small(b", aces again", o.aces);
-    small(b", double", o.double);
-    small(b", loss limited", o.limit);
-    small(b", insurance", o.insurance);
-    small(b", five cards", o.five);
-    small(b", prize", o.prize);
-    small(b", decider", o.decider);
-    cut(o.cut);
-    stake(b", stakes", o.smallest);
-    stake(b" to", o.largest);
-    words(b"\n");
+pub(crate) fn options_line<W: Write>(out: &mut W, o: Options) -> io::Result<()> {
+    small(out, b"seats", o.seats)?;
+    small(out, b", decks", o.decks)?;
+    device(out, o.device)?;
+    small(out, b", first burn", o.first)?;
+    small(out, b", later burn", o.later)?;
+    small(out, b", hands", o.hands)?;
+    small(out, b", aces again", o.aces)?;
+    small(out, b", double", o.double)?;
+    small(out, b", loss limited", o.limit)?;
+    small(out, b", insurance", o.insurance)?;
+    small(out, b", five cards", o.five)?;
+    small(out, b", prize", o.prize)?;
+    small(out, b", decider", o.decider)?;
+    cut(out, o.cut)?;
+    stake(out, b", stakes", o.smallest)?;
+    stake(out, b" to", o.largest)?;
+    words(out, b"\n")
 }
 
 // All houses with their options.
-pub(crate) fn all() {
+pub(crate) fn all<W: Write>(out: &mut W) -> io::Result<()> {
     let names = house_names();
     let lines: &[u8] = &names;
     for place in 1usize..6 {
-        words(b"  ");
-        line_at(lines, line_start(lines, place));
-        words(b": ");
-        options_line(house_at(place));
+        words(out, b"  ")?;
+        line_at(out, lines, line_start(lines, place))?;
+        words(out, b": ")?;
+        options_line(out, house_at(place))?;
     }
+    Ok(())
 }

@@ -19,12 +19,16 @@ mod words;
 
 use crate::desk::ROOM;
 use crate::reading::session;
+use std::io;
+use std::io::{BufWriter, Write};
 
 fn room() -> [u8; ROOM] {
     [0u8; ROOM]
 }
 
-fn main() {
+fn main(rt: HostRuntime) -> io::Result<()> {
     let mut file = room();
-    session(&mut file);
+    let mut out = BufWriter::new(rt.alloc(), io::writer(&rt))?;
+    session(&rt, &mut rt.stdin(), &mut out, &mut file)?;
+    out.flush()
 }

@@ -1,8 +1,9 @@
 // The names of the calls, and which call a name with its seat and amount stands for.
 use crate::words::{line_start, place_of};
 use call::{At, Call};
-use libc::STDOUT_FILENO;
 use stage::write::{figure, line_at, words};
+use std::io;
+use std::io::Write;
 
 // In the order of the session file's kinds, from 1.
 fn call_names() -> [u8; 120] {
@@ -15,10 +16,10 @@ pub(crate) fn kind_of(word: &[u8]) -> usize {
     place_of(word, &names)
 }
 
-fn name(kind: usize) {
+fn name<W: Write>(out: &mut W, kind: usize) -> io::Result<()> {
     let names = call_names();
     let lines: &[u8] = &names;
-    line_at(lines, line_start(lines, kind));
+    line_at(out, lines, line_start(lines, kind))
 }
 
 // The call of that kind.
@@ -48,46 +49,47 @@ pub(crate) fn call_of(kind: usize, at: At, amount: u64) -> Call {
     }
 }
 
-fn with_amount(kind: usize, amount: u64) {
-    name(kind);
-    figure(amount);
+fn with_amount<W: Write>(out: &mut W, kind: usize, amount: u64) -> io::Result<()> {
+    name(out, kind)?;
+    figure(out, amount)
 }
 
 // The position is written where it is not the seated guest's.
-fn with_guest(kind: usize, at: At) {
-    name(kind);
-    figure(at.seat as u64);
+fn with_guest<W: Write>(out: &mut W, kind: usize, at: At) -> io::Result<()> {
+    name(out, kind)?;
+    figure(out, at.seat as u64)?;
     if at.position != 0 {
-        words(b".");
-        io::print_decimal(STDOUT_FILENO, at.position as u64);
+        let position = at.position;
+        return write!(out, ".{position}");
     }
+    Ok(())
 }
 
-fn with_both(kind: usize, at: At, amount: u64) {
-    with_guest(kind, at);
-    figure(amount);
+fn with_both<W: Write>(out: &mut W, kind: usize, at: At, amount: u64) -> io::Result<()> {
+    with_guest(out, kind, at)?;
+    figure(out, amount)
 }
 
 // A call as it is typed.
-pub(crate) fn call_line(c: Call) {
+pub(crate) fn call_line<W: Write>(out: &mut W, c: Call) -> io::Result<()> {
     match c {
-        Call::Fill(n) => with_amount(1, n),
-        Call::Credit(n) => with_amount(2, n),
-        Call::Buy(at, n) => with_both(3, at, n),
-        Call::Cash(at, n) => with_both(4, at, n),
-        Call::Stake(at, n) => with_both(5, at, n),
-        Call::Deal => name(6),
-        Call::Insure(at, n) => with_both(7, at, n),
-        Call::Stand(at) => with_guest(8, at),
-        Call::Draw(at) => with_guest(9, at),
-        Call::Double(at) => with_guest(10, at),
-        Call::Split(at) => with_guest(11, at),
-        Call::Surrender(at) => with_guest(12, at),
-        Call::Even(at) => with_guest(13, at),
-        Call::Five(at) => with_guest(14, at),
-        Call::Close => name(15),
-        Call::Void => name(16),
-        Call::Load => name(17),
-        Call::Side(at, kind, n) => with_both(17 + (kind as usize), at, n),
+        Call::Fill(n) => with_amount(out, 1, n),
+        Call::Credit(n) => with_amount(out, 2, n),
+        Call::Buy(at, n) => with_both(out, 3, at, n),
+        Call::Cash(at, n) => with_both(out, 4, at, n),
+        Call::Stake(at, n) => with_both(out, 5, at, n),
+        Call::Deal => name(out, 6),
+        Call::Insure(at, n) => with_both(out, 7, at, n),
+        Call::Stand(at) => with_guest(out, 8, at),
+        Call::Draw(at) => with_guest(out, 9, at),
+        Call::Double(at) => with_guest(out, 10, at),
+        Call::Split(at) => with_guest(out, 11, at),
+        Call::Surrender(at) => with_guest(out, 12, at),
+        Call::Even(at) => with_guest(out, 13, at),
+        Call::Five(at) => with_guest(out, 14, at),
+        Call::Close => name(out, 15),
+        Call::Void => name(out, 16),
+        Call::Load => name(out, 17),
+        Call::Side(at, kind, n) => with_both(out, 17 + (kind as usize), at, n),
     }
 }

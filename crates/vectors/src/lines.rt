@@ -1,41 +1,38 @@
 // A line for each example: its words, then what the rule answers.
 use cards::score::HandScore;
-use libc::STDOUT_FILENO;
 use payment::pay::Pay;
+use std::io;
+use std::io::Write;
 
-pub(crate) fn answer(words: &[u8], yes: bool) {
-    io::write_all(STDOUT_FILENO, words);
+pub(crate) fn answer<W: Write>(out: &mut W, words: &[u8], yes: bool) -> io::Result<()> {
+    out.write_all(words)?;
     if yes {
-        io::write_all(STDOUT_FILENO, b": yes\n");
+        out.write_all(b": yes\n")
     } else {
-        io::write_all(STDOUT_FILENO, b": no\n");
+        out.write_all(b": no\n")
     }
 }
 
-pub(crate) fn number(words: &[u8], n: u64) {
-    io::write_all(STDOUT_FILENO, words);
-    io::write_all(STDOUT_FILENO, b": ");
-    io::print_decimal(STDOUT_FILENO, n);
-    io::write_all(STDOUT_FILENO, b"\n");
+pub(crate) fn number<W: Write>(out: &mut W, words: &[u8], n: u64) -> io::Result<()> {
+    out.write_all(words)?;
+    writeln!(out, ": {n}")
 }
 
 // The total, and soft where an ace counts eleven.
-pub(crate) fn score(words: &[u8], s: HandScore) {
-    io::write_all(STDOUT_FILENO, words);
-    io::write_all(STDOUT_FILENO, b": ");
-    io::print_decimal(STDOUT_FILENO, s.total as u64);
+pub(crate) fn score<W: Write>(out: &mut W, words: &[u8], s: HandScore) -> io::Result<()> {
+    let total = s.total;
+    out.write_all(words)?;
+    write!(out, ": {total}")?;
     if s.soft {
-        io::write_all(STDOUT_FILENO, b" soft");
+        out.write_all(b" soft")?;
     }
-    io::write_all(STDOUT_FILENO, b"\n");
+    out.write_all(b"\n")
 }
 
 // What lay there, and what goes back.
-pub(crate) fn pay(words: &[u8], p: Pay) {
-    io::write_all(STDOUT_FILENO, words);
-    io::write_all(STDOUT_FILENO, b": laid ");
-    io::print_decimal(STDOUT_FILENO, p.laid);
-    io::write_all(STDOUT_FILENO, b", back ");
-    io::print_decimal(STDOUT_FILENO, p.back);
-    io::write_all(STDOUT_FILENO, b"\n");
+pub(crate) fn pay<W: Write>(out: &mut W, words: &[u8], p: Pay) -> io::Result<()> {
+    let laid = p.laid;
+    let back = p.back;
+    out.write_all(words)?;
+    writeln!(out, ": laid {laid}, back {back}")
 }

@@ -12,6 +12,8 @@ use options::Options;
 use payment::bank::score_of;
 use rules::seat_hand::{SeatHand, SeatHands};
 use script::{card, digit, end_of};
+use std::io;
+use std::io::Write;
 
 // The hand at one of the four places.
 fn place_of(row: &[u8], k: usize) -> SeatHand
@@ -44,48 +46,56 @@ fn lone_hand(row: &[u8]) -> SeatHand
 }
 
 // What is asked of one hand.
-fn of_hand(rule: u8, row: &[u8], o: Options, up: u8, many: usize)
+fn of_hand<W: Write>(
+    out: &mut W,
+    rule: u8,
+    row: &[u8],
+    o: Options,
+    up: u8,
+    many: usize,
+) -> io::Result<()>
     requires { 44 ≤ length row.now }
 {
     let words = &row[44..];
     let h = lone_hand(row);
     match rule {
-        b'A'..=b'Z' => answer(words, permits(rule, o, up, many, h)),
-        b's' => score(words, hand_score(hand_of(&row[16..30]))),
-        _ => awaited::of_hand(rule, words, o, up, many, h),
+        b'A'..=b'Z' => answer(out, words, permits(rule, o, up, many, h)),
+        b's' => score(out, words, hand_score(hand_of(&row[16..30]))),
+        _ => awaited::of_hand(out, rule, words, o, up, many, h),
     }
 }
 
 // What is asked of the bank, or against it.
-fn of_bank(rule: u8, row: &[u8], o: Options)
+fn of_bank<W: Write>(out: &mut W, rule: u8, row: &[u8], o: Options) -> io::Result<()>
     requires { 44 ≤ length row.now }
 {
     let words = &row[44..];
     let bank = hand_of(&row[30..44]);
-    awaited::of_bank(rule, words, bank);
-    paid::of_hand(rule, words, o, score_of(bank), lone_hand(row));
+    awaited::of_bank(out, rule, words, bank)?;
+    paid::of_hand(out, rule, words, o, score_of(bank), lone_hand(row))
 }
 
-fn example(row: &[u8])
+fn example<W: Write>(out: &mut W, row: &[u8]) -> io::Result<()>
     requires { 44 ≤ length row.now }
 {
     let rule = row[0];
     let o = house(row[2]);
     let up = card(row[4], row[5]);
     let many = digit(row[7]);
-    of_hand(rule, row, o, up, many as usize);
-    awaited::of_seat(rule, &row[44..], o, up, seat_at(row, many));
-    of_bank(rule, row, o);
+    of_hand(out, rule, row, o, up, many as usize)?;
+    awaited::of_seat(out, rule, &row[44..], o, up, seat_at(row, many))?;
+    of_bank(out, rule, row, o)
 }
 
 // Each line long enough to be an example.
-pub(crate) fn each(text: &[u8]) {
+pub(crate) fn each<W: Write>(out: &mut W, text: &[u8]) -> io::Result<()> {
     let mut at = 0;
     while at < text.len() {
         let end = end_of(text, at);
         if 44 <= end - at {
-            example(&text[at..end]);
+            example(out, &text[at..end])?;
         }
         at = end + 1;
     }
+    Ok(())
 }

@@ -6,10 +6,13 @@ pub mod house;
 pub mod plan;
 
 use script::number;
+use std::env::Env;
 
 // A program's argument in decimal.
-pub fn calls_asked() -> u64 {
+pub fn calls_asked<R: Env>(rt: &R) -> u64 {
     let mut word = [b' '; 9];
-    let n = os::arg(1, &mut word);
-    number(&word[..n])
+    match rt.arg(1, &mut word) {
+        Ok(n) => number(&word[..n]),
+        Err(_) => 0,
+    }
 }

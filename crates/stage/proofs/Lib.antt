@@ -1,2 +1,0 @@
--- Laws of the figures that the rehearsal prints.
-pub mod Nets
