@@ -1,7 +1,6 @@
 -- A file that is not refused opens, and a reader hands out its calls, so playing it is the run of these.
-use mathlib.Core.Path.{◌≡◌, refl, sym, ◌∙◌, ap}
+use mathlib.Core.Path.{◌≡◌, ◌∙◌, ap}
 use mathlib.Core.Bool.{Bool, cond}
-use Prim.Native.Nat.{ℕ}
 use borrow.Author.Tests.{eq-eqb}
 use Rattle.cashier_spec.specs.Opening.{open_number}
 use Rattle.file_spec.specs.Number.{file_number}

@@ -1,0 +1,30 @@
+-- Each field is the answer to its call.
+use mathlib.Core.Path.{◌∙◌, ap}
+use Prim.Native.Nat.{ℕ}
+use Rattle.call.specs.declared.Call.TheVariants.{Insure}
+use Rattle.dealer_screen.specs.Lights.{accepts as accepts_by, lights_at}
+use Rattle.dealer_screen.proofs.lights.lights_at.Goals as goal
+
+pub returns : goal.returns
+unfolding lights_at
+returns c =
+    let asked = c in
+    let a = asked.args in
+    let insured = asked.accepts-4.ensures ∙ ap (λ (n : ℕ). accepts_by a.t (Insure a.at n)) asked.smallest_insurance.ensures in
+    λ i. record {
+      buy = c.accepts.ensures i;
+      cash = c.accepts-2.ensures i;
+      stake = c.accepts-3.ensures i;
+      insure = insured i;
+      stand = c.accepts-5.ensures i;
+      draw = c.accepts-6.ensures i;
+      double = c.accepts-7.ensures i;
+      split = c.accepts-8.ensures i;
+      surrender = c.accepts-9.ensures i;
+      even = c.accepts-10.ensures i;
+      five = c.accepts-11.ensures i;
+      pair = c.accepts-12.ensures i;
+      sevens = c.accepts-13.ensures i;
+      more = c.accepts-14.ensures i;
+      less = c.accepts-15.ensures i;
+    }
