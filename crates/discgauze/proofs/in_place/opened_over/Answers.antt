@@ -2,14 +2,12 @@
 use mathlib.Core.Path.{◌≡◌, sym, ◌∙◌, ap}
 use mathlib.Core.List.{List}
 use borrow.Author.Tests.{ne_eqb}
-use borrow.Author.Rules.{rules}
 use Rattle.call.specs.Refusal.{Condition, first}
 use Rattle.table.specs.declared.Table.{Table}
 use Rattle.answer.specs.declared.outcome.Outcome.{Outcome}
 use Rattle.answer.specs.Outcome.{make_outcome, outcome}
 use Rattle.cashier_spec.specs.Opening.{open_conditions, open_table, empty_table}
-use Rattle.discgauze.proofs.in_place.opened_over.Statement.{statement}
-use Rattle.discgauze.proofs.in_place.opened_over.Tie as tie
+use Rattle.discgauze.proofs.in_place.opened_over.Goals as goal
 
 refused : (conditions : List Condition) (effect other t : Table) (r : Outcome) → r ≡ outcome conditions effect other → (r.number ≡ 0 → ⊥) → make_outcome r.number t ≡ outcome conditions effect t
 unfolding outcome
@@ -23,20 +21,14 @@ accepted conditions effect other t r e none =
     let number : first conditions ≡ 0 = sym (ap (λ (o : Outcome). o.number) e) ∙ none in
     e ∙ rw number
 
-opening-requires : tie.Need-opening-requires
-opening-requires c κs = search rules
+pub returns-then-opened-ne0 : goal.returns-then-opened-ne0
+returns-then-opened-ne0 c =
+    let opened = c.opening-opened in
+    let a = c.args in
+    refused (open_conditions a.options a.order.now) (open_table a.options a.order.now) empty_table a.table opened.result opened.ensures c.if-opened-ne0.true
 
-returns : tie.Need-returns
+pub returns : goal.returns
 returns c =
-    let opened = c.before.before.opening in
-    let a = c.before.before.before.before.args in
-    refused (open_conditions a.options a.order.now) (open_table a.options a.order.now) empty_table a.table opened.result opened.ensures c.if1.true
-
-returns-2 : tie.Need-returns-2
-returns-2 c =
-    let opened = c.before.before.opening in
-    let a = c.before.before.before.before.args in
-    accepted (open_conditions a.options a.order.now) (open_table a.options a.order.now) empty_table a.table opened.result opened.ensures c.if1.false
-
-pub opened-over-spec : {M : Type 1} → statement M
-opened-over-spec = tie.close (tie.spec opening-requires returns returns-2)
+    let opened = c.opening-opened in
+    let a = c.args in
+    accepted (open_conditions a.options a.order.now) (open_table a.options a.order.now) empty_table a.table opened.result opened.ensures c.if-opened-ne0.false
