@@ -16,7 +16,6 @@ use Rattle.table.specs.declared.Table.{Table}
 use Rattle.table.specs.Seat.{missing_seat, hands}
 use Rattle.table.specs.Table.{seat_at, hand_cards, bank_cards, is_dealt, table_order, table_shoe, table_drawn, table_discards}
 use Rattle.table.specs.Money.{all_money}
-use Rattle.table.specs.Broken.{sound}
 use Rattle.table.proofs.Facts.{facts_sound, no_hands, cards_left_lem}
 use Rattle.history.specs.Entry.{Entry}
 use Rattle.history.specs.Rounds.{is_dealt_round, side_in}

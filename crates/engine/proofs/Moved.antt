@@ -14,7 +14,6 @@ use Rattle.call.specs.Call.{seat}
 use Rattle.call.specs.Refusal.{Condition, first}
 use Rattle.call.specs.Answer.{scored}
 use Rattle.cards.specs.declared.score.HandScore.{HandScore}
-use Rattle.table.specs.declared.Seat.{Seat}
 use Rattle.table.specs.declared.Table.{Table}
 use Rattle.table.specs.Seat.{missing_seat}
 use Rattle.table.specs.Table.{seat_at}
@@ -28,7 +27,7 @@ use Rattle.answer.specs.Outcome.{outcome}
 use Rattle.answer.specs.Reply.{ReplyView, reply_by, given_by, given_of, scored_reply}
 use Rattle.answer.specs.Scores.{scores_of}
 use Rattle.answer.proofs.reply.Laws.{plain}
-use Rattle.engine.specs.Scores.{place_score, card_scores, split_scores, hand_scores}
+use Rattle.engine.specs.Scores.{card_scores, split_scores, hand_scores}
 use Rattle.engine.specs.Aids.MovedScores.{moved_card, moved_split, moved_scores}
 use Rattle.engine.specs.Step.{step}
 

@@ -1,13 +1,13 @@
 -- Call blocks. One that is written holds its calls and passes every condition; one that passes them is what its calls are written to.
 use mathlib.Core.Path.{◌≡◌, refl, sym, ◌∙◌, ap, ap₂}
-use mathlib.Core.Bool.{Bool, true, false, cond, not, ◌&&◌, ◌||◌, and-eq-true_iff, true≢false}
+use mathlib.Core.Bool.{Bool, true, false, not, ◌&&◌, ◌||◌, true≢false}
 use mathlib.Core.List.{List, [], ◌∷◌, ◌++◌, map, append_assoc}
 use Prim.Native.Nat.{ℕ, zero, suc, ◌+◌, ◌-◌, ◌*◌, ◌≤◌, ◌<◌}
 use native.Mathlib.Omega.{arith}
-use lib.Dec.{ltb, leb, eqb}
-use lib.ListN.{length, take, drop, get_or, replicate, length-append, length-take, length-drop, length-map, take-append-drop}
-use lib.Seq.{length-take-le, take_all, take_at, drop_at, get_or-take, drop-drop, drop-cons}
-use borrow.Author.Tests.{ltb-true, lt-ltb, ltb-false, le-ltb, eqb-true, eqb-false, eq-eqb, ne_eqb, not-true, not-false}
+use lib.Dec.{ltb, eqb}
+use lib.ListN.{length, take, drop, get_or, replicate, length-drop, length-map, take-append-drop}
+use lib.Seq.{length-take-le, drop_at, get_or-take, drop-drop, drop-cons}
+use borrow.Author.Tests.{lt-ltb, ltb-false, le-ltb, eqb-true, eqb-false, eq-eqb, ne_eqb, not-true, not-false}
 use Rattle.lists.specs.Tests.{all_of, any_of}
 use Rattle.lists.specs.Flat.{flat}
 use Rattle.lists.proofs.Flats.{flat_map}
@@ -15,17 +15,17 @@ use Rattle.lists.proofs.Parts.{any_map, part_of_take}
 use Rattle.lists.proofs.Places.{map-take}
 use Rattle.lists.proofs.Tests.{or_eq_false, all-at, any_not_at}
 use Rattle.call.specs.declared.Call.{Call}
-use Rattle.call.specs.Call.{kind, seat, position, amount}
+use Rattle.call.specs.Call.{kind}
 use Rattle.call.specs.Refusal.{first}
 use Rattle.call.proofs.Refusals.{none_hold, NoneHold}
 use Rattle.file_spec.specs.Block.{is_byte, Bytes, little_endian, weighed, content, checks, padded, sealed, zeros, pieces}
 use Rattle.file_spec.specs.CallBlock.{most, call_bytes, call_block, many_in, codes_in, code_kind, code_seat, code_amount, code_call, has_seat, has_amount, wrong_kind, stray_seat, stray_amount, is_load_code, ends_in_load, call_conditions}
-use Rattle.file_spec.specs.File.{known_kind, fits}
-use Rattle.file_spec.proofs.Alls.{all_cons, cons_all, all_append, all-part, all_rest}
+use Rattle.file_spec.specs.File.{fits}
+use Rattle.file_spec.proofs.Alls.{all_cons, cons_all, all_rest}
 use Rattle.file_spec.proofs.Pieces.{is_sized, Sized, AllBytes, joined, joined_length, joined_bytes, joined-pieces, pieces-joined, pieces-length, pieces_sized, pieces_bytes}
-use Rattle.file_spec.proofs.Sealing.{padded-length, padded-whole, sealed-length, sealed-content, sealed_bytes, sealed-checks, checked_sealed}
+use Rattle.file_spec.proofs.Sealing.{padded-whole, sealed-length, sealed-content, sealed_bytes, sealed-checks, checked_sealed}
 use Rattle.file_spec.proofs.TableBlocks.{zeros-replicate, zeros_are, padded-split}
-use Rattle.file_spec.proofs.Codes.{call_length, Fits, fits_facts, call_bytes_lem, right_kind, no_stray_seat, no_stray_amount, Passes, code_write, code_kind_lem}
+use Rattle.file_spec.proofs.Codes.{call_length, Fits, fits_facts, call_bytes_lem, right_kind, no_stray_seat, no_stray_amount, Passes, code_write}
 
 -- a call that is a load by its kind
 abbrev pub is_load_call : Call → Bool

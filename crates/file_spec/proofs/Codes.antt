@@ -1,23 +1,23 @@
 -- The ten bytes of a call. Those of a call that fits name it, and ten bytes that pass the rules are those of the call that they name: kind by kind.
 use mathlib.Core.Path.{◌≡◌, refl, sym, ◌∙◌, ap, ap₂, subst}
-use mathlib.Core.Bool.{Bool, true, false, cond, not, ◌&&◌, ◌||◌, and-eq-true_iff, or-true}
-use mathlib.Core.List.{List, [], ◌∷◌, ◌++◌}
-use Prim.Native.Nat.{ℕ, zero, suc, ◌+◌, ◌-◌, ◌*◌, ◌/◌, ◌%◌, ◌^◌, ◌≤◌, ◌<◌}
+use mathlib.Core.Bool.{true, false, not, ◌&&◌, ◌||◌, and-eq-true_iff, or-true}
+use mathlib.Core.List.{List, ◌∷◌}
+use Prim.Native.Nat.{ℕ, zero, suc, ◌+◌, ◌-◌, ◌*◌, ◌^◌, ◌≤◌, ◌<◌}
 use native.Mathlib.Decide.{dec_le}
 use native.Mathlib.Omega.{arith}
 use lib.Dec.{ltb, leb, eqb}
-use lib.ListN.{length, take, drop, get_or, length-drop}
+use lib.ListN.{length, take, drop, length-drop}
 use lib.Seq.{take_all, drop-cons, length-take-le}
 use borrow.Author.Tests.{ltb-true, lt-ltb, leb-true, le-leb, le-ltb, ne_eqb}
 use Rattle.call.specs.declared.At.{At}
 use Rattle.call.specs.declared.Call.{Call}
 use Rattle.call.specs.declared.Call.TheVariants.{Fill, Credit, Buy, Cash, Stake, Deal, Insure, Stand, Draw, Double, Split, Surrender, Even, Five, Close, Void, Load, Side}
 use Rattle.call.specs.Call.{kind, seat, position, amount}
-use Rattle.file_spec.specs.Block.{is_byte, Bytes, little_endian, number_of}
+use Rattle.file_spec.specs.Block.{is_byte, Bytes, little_endian}
 use Rattle.file_spec.specs.CallBlock.{call_bytes, code_kind, code_seat, code_amount, code_at, call_of, code_call, has_seat, has_amount, wrong_kind, stray_seat, stray_amount}
 use Rattle.file_spec.specs.File.{known_kind, fits}
 use Rattle.file_spec.proofs.Alls.{cons_all, all-part, all_rest}
-use Rattle.file_spec.proofs.Numbers.{le_length, le_bytes, le_read, le_write}
+use Rattle.file_spec.proofs.Numbers.{le_bytes, le_read, le_write}
 
 pub call_length : (c : Call) → length (call_bytes c) ≡ 10
 unfolding call_bytes little_endian

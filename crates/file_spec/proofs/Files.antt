@@ -1,24 +1,23 @@
 -- The file that is written: its blocks pass, one after the other, and hand out the calls again. The calls of the open block are carried along, as the writer carries them.
-use mathlib.Core.Path.{◌≡◌, refl, sym, ◌∙◌, ap, ap₂}
-use mathlib.Core.Bool.{Bool, true, false, cond, not, ◌&&◌, ◌||◌, and-eq-true_iff, and-false, or-false}
-use mathlib.Core.List.{List, [], ◌∷◌, ◌++◌, map, append_assoc, append-nil}
-use Prim.Native.Nat.{ℕ, zero, suc, ◌+◌, ◌-◌, ◌*◌, ◌≤◌, ◌<◌}
+use mathlib.Core.Path.{◌≡◌, refl, ◌∙◌, ap, ap₂}
+use mathlib.Core.Bool.{Bool, true, false, cond, not, ◌&&◌, ◌||◌, and-eq-true_iff, and-false}
+use mathlib.Core.List.{List, [], ◌∷◌, ◌++◌, map, append_assoc}
+use Prim.Native.Nat.{ℕ, ◌+◌, ◌-◌, ◌≤◌, ◌<◌}
 use native.Mathlib.Omega.{arith}
-use lib.Dec.{ltb, leb, eqb}
+use lib.Dec.{ltb, eqb}
 use lib.ListN.{length, take, drop, length-append}
 use lib.Seq.{take_at, drop_at}
 use borrow.Author.Tests.{eqb-true, eqb-false, not-true, le-ltb}
 use Rattle.lists.specs.Tests.{all_of, any_of}
 use Rattle.lists.proofs.Tests.{any_one, test_where}
 use Rattle.call.specs.declared.Call.{Call}
-use Rattle.call.specs.Call.{kind}
 use Rattle.call.specs.Refusal.{first}
 use Rattle.options.specs.declared.Options.{Options}
 use Rattle.options.specs.Ranges.{in_range}
 use Rattle.table.specs.Shoe.{valid_order}
 use Rattle.history.specs.Entry.{Entry, is_load}
 use Rattle.file_spec.specs.TableBlock.{table_block, loaded_conditions, order_in}
-use Rattle.file_spec.specs.CallBlock.{most, call_bytes, call_block, codes_in, ends_in_load, call_conditions}
+use Rattle.file_spec.specs.CallBlock.{most, call_bytes, call_block, ends_in_load, call_conditions}
 use Rattle.file_spec.specs.File.{fits, writable, blocks_behind}
 use Rattle.file_spec.specs.Number.{is_end, number_behind}
 use Rattle.file_spec.specs.Handed.{code_entry, next_order, calls_behind}

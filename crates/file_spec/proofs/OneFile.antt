@@ -3,19 +3,17 @@
 use mathlib.Core.Path.{◌≡◌, refl, sym, ◌∙◌, ap, ap₂, subst}
 use mathlib.Core.Bool.{Bool, true, false, cond, not, ◌&&◌, ◌||◌, and-true, true≢false}
 use mathlib.Core.List.{List, [], ◌∷◌, ◌++◌, map, append_assoc, append-nil}
-use Prim.Native.Nat.{ℕ, zero, suc, ◌+◌, ◌-◌, ◌*◌, ◌/◌, ◌%◌, ◌≤◌, ◌<◌}
+use Prim.Native.Nat.{ℕ, suc, ◌+◌, ◌-◌, ◌/◌, ◌%◌, ◌≤◌, ◌<◌}
 use native.Mathlib.Decide.{dec_le}
 use native.Mathlib.Omega.{arith}
 use lib.Dec.{ltb, eqb}
-use lib.ListN.{length, take, drop, get_or, length-append, length-map, take-append-drop, length-take, length-drop}
+use lib.ListN.{length, take, drop, get_or, length-map, take-append-drop}
 use lib.Seq.{drop-cons, length-take-le, drop-length, get_or-take}
-use borrow.Author.Tests.{eqb-true, eqb-false, eq-eqb, ne_eqb, ltb-false, le-ltb, lt-ltb, not-true, not-false}
+use borrow.Author.Tests.{eqb-true, eqb-false, eq-eqb, ne_eqb, ltb-false, not-true, not-false}
 use Rattle.lists.specs.Tests.{all_of, any_of}
 use Rattle.lists.specs.Flat.{flat}
 use Rattle.lists.proofs.Tests.{or_eq_false, any_one}
-use Rattle.lists.proofs.Places.{map-take}
 use Rattle.call.specs.declared.Call.{Call}
-use Rattle.call.specs.Call.{kind}
 use Rattle.call.specs.Refusal.{first}
 use Rattle.call.proofs.Refusals.{first-behind, accepted-head}
 use Rattle.options.specs.declared.Options.{Options}

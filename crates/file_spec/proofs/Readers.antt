@@ -1,33 +1,31 @@
 -- A reader of an accepted file: from the place of a call it hands out that call and comes to the place of the next one, in the same block, or in the next call block, so that the calls of every block come
 -- one after the other.
 use mathlib.Core.Path.{◌≡◌, refl, sym, ◌∙◌, ap, ap₂, subst}
-use mathlib.Core.Bool.{Bool, true, false, cond, not, ◌&&◌, true≢false}
+use mathlib.Core.Bool.{Bool, true, false, cond, ◌&&◌, true≢false}
 use mathlib.Core.List.{List, [], ◌∷◌, ◌++◌, map}
 use Prim.Native.Nat.{ℕ, zero, suc, ◌+◌, ◌-◌, ◌*◌, ◌/◌, ◌%◌, ◌≤◌, ◌<◌}
 use native.Mathlib.Decide.{dec_le}
 use native.Mathlib.Omega.{arith}
-use lib.Dec.{ltb, leb, eqb}
-use lib.ListN.{length, take, drop, get_or, length-drop, length-take}
-use lib.Seq.{length-take-le, drop-drop, drop-cons, get_or-take, get_or-drop, drop-length, take_all}
-use borrow.Author.Tests.{lt-ltb, le-ltb, le-leb, lt-leb, eqb-true, eq-eqb}
-use Rattle.lists.specs.Tests.{all_of, any_of}
+use lib.Dec.{leb}
+use lib.ListN.{length, take, drop, get_or, length-drop}
+use lib.Seq.{length-take-le, drop-drop, drop-cons, get_or-take, get_or-drop, drop-length}
+use borrow.Author.Tests.{lt-ltb, le-ltb, le-leb, lt-leb, eq-eqb}
 use Rattle.lists.proofs.Tests.{any_not_at}
 use Rattle.lists.proofs.Parts.{part_of_take}
 use Rattle.call.specs.Refusal.{first}
 use Rattle.history.specs.Entry.{Entry}
-use Rattle.options.specs.Aids.Facts.{InRange}
 use Rattle.options.proofs.Facts.{in_range_facts}
 use Rattle.file_spec.specs.Block.{is_byte, Bytes, pieces}
-use Rattle.file_spec.specs.TableBlock.{order_in, options_in, table_conditions, loaded_conditions, same_options}
-use Rattle.file_spec.specs.CallBlock.{most, codes_in, code_call, many_in, is_load_code, ends_in_load, call_conditions}
+use Rattle.file_spec.specs.TableBlock.{options_in, loaded_conditions}
+use Rattle.file_spec.specs.CallBlock.{codes_in, code_call, many_in, is_load_code, ends_in_load, call_conditions}
 use Rattle.file_spec.specs.Number.{is_end, number_behind, file_blocks, file_number}
 use Rattle.file_spec.specs.Handed.{code_entry, next_order, calls_behind, behind_first, file_calls}
-use Rattle.file_spec.specs.Reader.{call_place, first_place, code_of, start_of, many_of, place_behind, has_call, order_at, handed_at, Reads}
+use Rattle.file_spec.specs.Reader.{call_place, first_place, code_of, start_of, many_of, place_behind, order_at, handed_at, Reads}
 use Rattle.file_spec.proofs.Alls.{all-part, all_rest}
 use Rattle.file_spec.proofs.Pieces.{piece_at}
 use Rattle.file_spec.proofs.TableBlocks.{loaded_table, read_range}
 use Rattle.file_spec.proofs.CallBlocks.{read_many, no_early, read_end, codes_many}
-use Rattle.file_spec.proofs.OneFile.{both_zero, end_code, some_bytes, whole_blocks, number_behind_lem, first_and_others}
+use Rattle.file_spec.proofs.OneFile.{both_zero, end_code, some_bytes, whole_blocks, number_behind_lem}
 
 and_of_true : (a b : Bool) → b ≡ true → a && b ≡ false → a ≡ false
 and_of_true true b e h = absurd (true≢false (sym e ∙ h))

@@ -1,15 +1,15 @@
 -- A block and its check. A sealed block checks; one that checks is what its content is sealed to; and where one byte of it is altered, it no longer checks: the sum moves by a multiple of
 -- the byte's place, or the check by its digit, and never both.
 use mathlib.Core.Path.{◌≡◌, refl, sym, ◌∙◌, ap, ap₂}
-use mathlib.Core.Bool.{Bool, true, false, cond, ◌&&◌, and-eq-true_iff, and_assoc}
+use mathlib.Core.Bool.{true, and-eq-true_iff}
 use mathlib.Core.List.{List, [], ◌∷◌, ◌++◌}
-use Prim.Native.Nat.{ℕ, zero, suc, ◌+◌, ◌-◌, ◌*◌, ◌/◌, ◌%◌, ◌^◌, ◌≤◌, ◌<◌}
+use Prim.Native.Nat.{ℕ, zero, suc, ◌+◌, ◌-◌, ◌*◌, ◌^◌, ◌≤◌, ◌<◌}
 use native.Mathlib.Decide.{dec_le}
 use native.Mathlib.Nat.{mul-le-mul, eq_of_mul-eq-mul_right}
 use native.Mathlib.Omega.{arith}
-use lib.Dec.{ltb, eqb}
-use lib.ListN.{length, take, drop, get_or, set, replicate, length-append, length-take, length-drop, length-set, length-replicate, take-append-drop}
-use lib.Seq.{length-take-le, take_all, take_at, drop_at, take-append-le, drop-set-lt, take-set-le, take-set-lt, drop-set-add, get_or-set_same, get_or-drop, get_or-take}
+use lib.Dec.{ltb}
+use lib.ListN.{length, take, drop, get_or, set, replicate, length-append, length-drop, length-set, length-replicate, take-append-drop}
+use lib.Seq.{length-take-le, take_all, take_at, drop_at, drop-set-lt, take-set-le, take-set-lt, drop-set-add, get_or-set_same, get_or-drop, get_or-take}
 use borrow.Author.Tests.{ltb-true, lt-ltb, eqb-true, eq-eqb}
 use Rattle.lists.specs.Tests.{all_of}
 use Rattle.file_spec.specs.Block.{is_byte, Bytes, little_endian, number_of, weighed, content, checks, padded, sealed}

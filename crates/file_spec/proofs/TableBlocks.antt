@@ -1,12 +1,12 @@
 -- Table blocks. One that is written holds its options and its order and passes every condition; one that passes them is what its options and its order are written to.
 use mathlib.Core.Path.{◌≡◌, refl, sym, ◌∙◌, ap, ap₂}
-use mathlib.Core.Bool.{Bool, true, false, cond, not, ◌&&◌, ◌||◌, and-eq-true_iff}
+use mathlib.Core.Bool.{Bool, true, not, ◌&&◌, and-eq-true_iff}
 use mathlib.Core.List.{List, [], ◌∷◌, ◌++◌, append_assoc}
-use Prim.Native.Nat.{ℕ, zero, suc, ◌+◌, ◌-◌, ◌*◌, ◌^◌, ◌≤◌, ◌<◌}
+use Prim.Native.Nat.{ℕ, zero, suc, ◌+◌, ◌-◌, ◌*◌, ◌≤◌, ◌<◌}
 use native.Mathlib.Omega.{arith}
 use lib.Dec.{ltb, eqb}
-use lib.ListN.{length, take, drop, get_or, replicate, length-append, length-take, length-drop, length-replicate, take-append-drop}
-use lib.Seq.{length-take-le, take_all, take_at, drop_at, take-append-add, take-append-le, take-take, take-add, drop-cons, get_or-take, drop-drop, ext_get_or}
+use lib.ListN.{length, take, drop, get_or, replicate, length-append, length-drop, length-replicate, take-append-drop}
+use lib.Seq.{length-take-le, take_at, drop_at, take-append-add, take-take, take-add, drop-cons, get_or-take, drop-drop, ext_get_or}
 use borrow.Author.Tests.{ltb-true, lt-ltb, eqb-true, eq-eqb, not-false}
 use Rattle.lists.specs.Sum.{count_of}
 use Rattle.lists.specs.Tests.{all_of}
@@ -21,11 +21,11 @@ use Rattle.options.specs.Aids.Facts.{InRange}
 use Rattle.options.proofs.Facts.{in_range_facts}
 use Rattle.table.specs.Shoe.{valid_order}
 use Rattle.cashier_spec.proofs.Order.{valid_length}
-use Rattle.file_spec.specs.Block.{is_byte, Bytes, little_endian, number_of, weighed, content, checks, padded, sealed, zeros}
+use Rattle.file_spec.specs.Block.{is_byte, Bytes, little_endian, number_of, content, checks, padded, sealed, zeros}
 use Rattle.file_spec.specs.TableBlock.{option_bytes, table_block, options_in, cards_in, order_in, table_conditions, same_options, loaded_conditions}
 use Rattle.file_spec.proofs.Alls.{all_cons, cons_all, all_append, all-part, all_rest, all_replicate, all_weaker}
-use Rattle.file_spec.proofs.Numbers.{le_length, le_bytes, le_read, le_write}
-use Rattle.file_spec.proofs.Sealing.{padded-length, padded_bytes, padded-whole, sealed-length, sealed-content, sealed_bytes, sealed-checks, checked_sealed}
+use Rattle.file_spec.proofs.Numbers.{le_bytes, le_read, le_write}
+use Rattle.file_spec.proofs.Sealing.{padded-length, padded_bytes, sealed-length, sealed-content, sealed_bytes, sealed-checks, checked_sealed}
 
 -- zeros, and lists of zeros
 pub zeros-replicate : (n : ℕ) → zeros (replicate n 0) ≡ true

@@ -1,31 +1,29 @@
 -- A file and its blocks: a file of blocks is taken apart into these, so that what was said of the blocks of a written session holds of its file.
 use mathlib.Core.Path.{◌≡◌, refl, sym, ◌∙◌, ap, ap₂}
-use mathlib.Core.Bool.{Bool, true, false, cond, not, ◌&&◌, ◌||◌}
-use mathlib.Core.List.{List, [], ◌∷◌, ◌++◌, map, append-nil}
-use Prim.Native.Nat.{ℕ, zero, suc, ◌+◌, ◌-◌, ◌*◌, ◌/◌, ◌%◌, ◌≤◌, ◌<◌}
+use mathlib.Core.Bool.{Bool, true, false, cond}
+use mathlib.Core.List.{List, [], ◌∷◌, map, append-nil}
+use Prim.Native.Nat.{ℕ, ◌*◌, ◌/◌, ◌%◌, ◌≤◌, ◌<◌}
 use native.Mathlib.Omega.{arith}
 use lib.Dec.{eqb}
-use lib.ListN.{length, take, length-append}
+use lib.ListN.{length, take}
 use lib.Seq.{take_at, take_all}
-use borrow.Author.Tests.{eqb-true, eqb-false, eq-eqb, ne_eqb}
+use borrow.Author.Tests.{eqb-false, eq-eqb, ne_eqb}
 use Rattle.lists.specs.Tests.{all_of}
 use Rattle.lists.specs.Flat.{flat}
-use Rattle.lists.proofs.Tests.{or_eq_false}
 use Rattle.call.specs.declared.Call.{Call}
-use Rattle.call.specs.Refusal.{first}
 use Rattle.options.specs.declared.Options.{Options}
 use Rattle.options.specs.Ranges.{in_range}
 use Rattle.table.specs.Shoe.{valid_order}
 use Rattle.history.specs.Entry.{Entry, is_load}
 use Rattle.file_spec.specs.Block.{is_byte, Bytes, pieces}
-use Rattle.file_spec.specs.TableBlock.{table_block, options_in, order_in, table_conditions}
+use Rattle.file_spec.specs.TableBlock.{table_block, options_in, order_in}
 use Rattle.file_spec.specs.CallBlock.{most, call_block}
 use Rattle.file_spec.specs.File.{fits, writable, blocks_behind, session_blocks, file_of}
-use Rattle.file_spec.specs.Number.{blocks_number, file_blocks, file_number, number_behind}
+use Rattle.file_spec.specs.Number.{blocks_number, file_blocks, file_number}
 use Rattle.file_spec.specs.Handed.{file_options, file_order, file_calls, calls_behind, behind_first}
 use Rattle.file_spec.specs.Laws.{kept}
 use Rattle.file_spec.proofs.Alls.{all_cons, cons_all}
-use Rattle.file_spec.proofs.Pieces.{is_sized, Sized, AllBytes, joined, joined_length, joined_bytes, joined-pieces, pieces-joined}
+use Rattle.file_spec.proofs.Pieces.{is_sized, Sized, joined, joined_length, joined_bytes, joined-pieces, pieces-joined}
 use Rattle.file_spec.proofs.TableBlocks.{table_length, table_options, table_order_lem, table_bytes, table_accepted}
 use Rattle.file_spec.proofs.CallBlocks.{calls-length, calls_bytes}
 use Rattle.file_spec.proofs.Files.{now, now-length, now-fits, writable_facts, behind-accepted, handed_out}

@@ -1,10 +1,10 @@
 -- The writer gives the session's blocks: what it keeps are the calls of the open block, in bytes.
 use mathlib.Core.Path.{◌≡◌, refl, sym, ◌∙◌, ap, ap₂}
-use mathlib.Core.Bool.{Bool, true, false, cond, not, ◌&&◌, ◌||◌}
+use mathlib.Core.Bool.{Bool, true, false, cond}
 use mathlib.Core.List.{List, [], ◌∷◌, ◌++◌, append_assoc, append-nil}
-use Prim.Native.Nat.{ℕ, suc, ◌+◌, ◌<◌}
+use Prim.Native.Nat.{ℕ, ◌+◌, ◌<◌}
 use native.Mathlib.Omega.{arith}
-use lib.Dec.{leb, eqb, eqb-suc-zero}
+use lib.Dec.{eqb, eqb-suc-zero}
 use lib.ListN.{length}
 use borrow.Author.Tests.{lt-leb, eqb-false}
 use Rattle.lists.specs.Tests.{all_of}

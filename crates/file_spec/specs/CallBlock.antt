@@ -1,6 +1,6 @@
 -- Request 2.9: "A call block has a byte for the number of calls, 1 to 50, then ten bytes each: kind 1 to 21 …, seat + 16 × position, eight bytes of amount; zeros after. Calls
 -- without seat or amount have 0 there. A load is the last call of its block …. Every call block is full unless it ends in a load or is the file's last."
-use Rattle.std.specs.Prelude.{Bool, cond, not, ◌&&◌, ◌||◌, List, [], ◌∷◌, ◌++◌, ℕ, ◌+◌, ◌-◌, ◌*◌, ◌/◌, ◌%◌, ltb, leb, eqb, length, take, drop, get_or}
+use Rattle.std.specs.Prelude.{Bool, cond, not, ◌&&◌, ◌||◌, List, [], ◌∷◌, ℕ, ◌+◌, ◌-◌, ◌*◌, ◌/◌, ◌%◌, ltb, leb, eqb, length, take, drop, get_or}
 use Rattle.lists.specs.Tests.{any_of}
 use Rattle.lists.specs.Flat.{flat}
 use Rattle.call.specs.declared.At.{At}

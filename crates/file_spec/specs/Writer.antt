@@ -1,5 +1,5 @@
 -- Request 2.9: "the writer gives, block by block, the one file that a session has." It keeps the options and the bytes of the block that is still open, and is told each accepted call.
-use Rattle.std.specs.Prelude.{Bool, cond, not, ◌&&◌, ◌||◌, List, [], ◌∷◌, ◌++◌, ℕ, ◌+◌, ◌*◌, leb, eqb, length}
+use Rattle.std.specs.Prelude.{cond, not, ◌&&◌, ◌||◌, List, [], ◌∷◌, ◌++◌, ℕ, ◌+◌, leb, eqb}
 use Rattle.options.specs.declared.Options.{Options}
 use Rattle.options.specs.Ranges.{in_range}
 use Rattle.table.specs.Shoe.{valid_order}

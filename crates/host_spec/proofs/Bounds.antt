@@ -1,7 +1,6 @@
 -- What a round can add to a tally: eight stakes, an insurance and four side stakes are laid at most, and no more comes back than that and the cover.
-use mathlib.Core.Path.{◌≡◌, refl, sym, ◌∙◌, ap, ap₂}
+use mathlib.Core.Path.{◌≡◌, refl, ◌∙◌, ap, ap₂}
 use mathlib.Core.Bool.{Bool, true, false, cond, ◌&&◌, ◌||◌, and-eq-true_iff, or-true}
-use mathlib.Core.List.{List}
 use Prim.Native.Nat.{ℕ, ◌+◌, ◌*◌, ◌/◌, ◌%◌, ◌≤◌, ◌<◌}
 use native.Mathlib.Decide.{dec_le}
 use native.Mathlib.Omega.{arith}
@@ -11,9 +10,8 @@ use borrow.Author.Tests.{leb-true, le-leb, ltb-true, eqb-true, ne_eqb}
 use Rattle.lists.proofs.Tests.{or_other}
 use Rattle.call.specs.Refusal.{first}
 use Rattle.options.specs.declared.Options.{Options}
-use Rattle.options.specs.Permitted.{stake_permitted, most_side}
+use Rattle.options.specs.Permitted.{stake_permitted}
 use Rattle.options.specs.Aids.Facts.{InRange}
-use Rattle.payment.specs.Bets.{all_sides}
 use Rattle.table.specs.declared.Seat.{Seat}
 use Rattle.table.specs.declared.Table.{Table}
 use Rattle.table.specs.Seat.{is_staked, purse, stake, insurance, sides, laid, prizes}

@@ -1,12 +1,12 @@
 -- What a close adds to a tally is what the history counts for that round: the money laid, and what came back with the prizes, whose difference are nets and prizes. Past the last round that
 -- counts neither side moves.
-use mathlib.Core.Path.{◌≡◌, refl, sym, ◌∙◌, ap, ap₂, subst, subst₂}
-use mathlib.Core.Bool.{Bool, true, false, cond, not, ◌&&◌, and-false, true≢false}
-use mathlib.Core.List.{List, [], ◌∷◌}
-use Prim.Native.Nat.{ℕ, zero, suc, ◌+◌, ◌-◌, ◌*◌, ◌≤◌, ◌<◌}
+use mathlib.Core.Path.{◌≡◌, refl, sym, ◌∙◌, ap, subst, subst₂}
+use mathlib.Core.Bool.{Bool, true, false, cond, ◌&&◌, true≢false}
+use mathlib.Core.List.{List, ◌∷◌}
+use Prim.Native.Nat.{ℕ, suc, ◌+◌, ◌-◌, ◌≤◌, ◌<◌}
 use native.Mathlib.Omega.{arith}
-use lib.Dec.{ltb, eqb}
-use lib.IntN.{ℤ, pos, ◌+ℤ◌, ◌-ℤ◌, +ℤ_assoc, +ℤ-neg_ℤ_cancel}
+use lib.Dec.{ltb}
+use lib.IntN.{ℤ, pos, ◌+ℤ◌, ◌-ℤ◌, +ℤ-neg_ℤ_cancel}
 use lib.ListN.{length, drop, length-drop}
 use borrow.Author.Tests.{ltb-true, ltb-false}
 use Rattle.lists.specs.Sum.{sum_of}
@@ -15,7 +15,7 @@ use Rattle.call.specs.declared.Call.TheVariants.{Close}
 use Rattle.call.specs.Refusal.{first}
 use Rattle.options.specs.declared.Options.{Options}
 use Rattle.table.specs.declared.Table.{Table}
-use Rattle.table.specs.Seat.{is_staked, stake, purse, laid, prizes}
+use Rattle.table.specs.Seat.{is_staked, laid, prizes}
 use Rattle.table.specs.Table.{guest_of}
 use Rattle.history.specs.Entry.{Entry}
 use Rattle.history.specs.Rounds.{stake_in}
@@ -25,10 +25,10 @@ use Rattle.close_spec.proofs.Close.{Gains, close-gains}
 use Rattle.host_spec.specs.declared.Tally.{Tally}
 use Rattle.host_spec.specs.declared.GuestCard.{GuestCard}
 use Rattle.host_spec.specs.declared.HostCall.TheVariants.{Play}
-use Rattle.host_spec.specs.Cards.{make_tally, make_card, is_here, net}
+use Rattle.host_spec.specs.Cards.{make_card, is_here, net}
 use Rattle.host_spec.specs.Broken.{most_rounds}
-use Rattle.host_spec.specs.Close.{with_round, came_back, counts, counted_card}
-use Rattle.host_spec.specs.History.{HostEntry, plays_of, seated_in, seated_after, ClosedRound, closed_round, rounds_after, rounds_since, counted_rounds, gains}
+use Rattle.host_spec.specs.Close.{with_round, came_back, counted_card}
+use Rattle.host_spec.specs.History.{HostEntry, plays_of, seated_in, seated_after, ClosedRound, closed_round, rounds_after, rounds_since, gains}
 use Rattle.host_spec.specs.Claim.{card_in, TallyClaim}
 
 -- the first of a list that grows at its front

@@ -1,22 +1,21 @@
 -- Guest cards that are sound, as facts: each place by itself, and no card at two of them. An arrival and a leaving keep them so.
-use mathlib.Core.Path.{◌≡◌, refl, sym, ◌∙◌, ap, ap₂, subst}
-use mathlib.Core.Bool.{Bool, true, false, not, ◌&&◌, ◌||◌, and-eq-true_iff, and-false, true≢false}
+use mathlib.Core.Path.{◌≡◌, refl, sym, ◌∙◌, ap, ap₂}
+use mathlib.Core.Bool.{Bool, true, false, not, ◌&&◌, and-eq-true_iff, true≢false}
 use mathlib.Core.List.{List}
-use Prim.Native.Nat.{ℕ, ◌+◌, ◌*◌, ◌/◌, ◌≤◌, ◌<◌}
+use Prim.Native.Nat.{ℕ, ◌/◌, ◌≤◌, ◌<◌}
 use native.Mathlib.Decide.{dec_le, ℕ_discrete}
 use native.Mathlib.Omega.{arith}
-use lib.Dec.{ltb, leb, eqb}
+use lib.Dec.{eqb}
 use lib.ListN.{length, get_or}
-use borrow.Author.Tests.{ltb-true, lt-ltb, eqb-true, eq-eqb, not-true, not-false, leb-false}
-use Rattle.lists.specs.Tests.{any_of}
+use borrow.Author.Tests.{ltb-true, lt-ltb, eqb-true, eq-eqb, not-true}
 use Rattle.lists.specs.Below.{all_below}
-use Rattle.lists.proofs.Tests.{any_not_at, or_other, first_inside, first_passes}
+use Rattle.lists.proofs.Tests.{any_not_at, first_inside, first_passes}
 use Rattle.lists.proofs.Below.{all_below_lem, below_all}
 use Rattle.options.specs.declared.Options.{Options}
 use Rattle.host_spec.specs.declared.GuestCard.{GuestCard}
 use Rattle.host_spec.specs.declared.Hosted.{Hosted}
-use Rattle.host_spec.specs.Cards.{arrived, no_card, no_tally, is_here, holds, sits_here, place_of, with_card}
-use Rattle.host_spec.specs.Broken.{sound_tally, is_empty, sound_card, each_once, sound_cards}
+use Rattle.host_spec.specs.Cards.{arrived, no_card, is_here, holds, sits_here, place_of, with_card}
+use Rattle.host_spec.specs.Broken.{sound_tally, sound_card, each_once, sound_cards}
 use Rattle.host_spec.proofs.Places.{put_there, put_elsewhere}
 
 abbrev pub card_of : List GuestCard → ℕ → GuestCard

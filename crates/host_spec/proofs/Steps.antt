@@ -1,13 +1,13 @@
 -- One accepted call keeps table, cards and tallies in agreement with what was accepted: a call of the table as the engine's, an arrival and a leaving by the place that they change.
 use mathlib.Core.Path.{◌≡◌, refl, sym, ◌∙◌, ap, ap₂, subst}
-use mathlib.Core.Bool.{Bool, true, false, cond, not, ◌&&◌, ◌||◌, and-eq-true_iff, true≢false}
+use mathlib.Core.Bool.{Bool, true, false, cond, not, ◌&&◌, and-eq-true_iff, true≢false}
 use mathlib.Core.List.{List, [], ◌∷◌}
-use Prim.Native.Nat.{ℕ, zero, suc, ◌+◌, ◌-◌, ◌*◌, ◌/◌, ◌%◌, ◌≤◌, ◌<◌}
+use Prim.Native.Nat.{ℕ, zero, suc, ◌+◌, ◌-◌, ◌/◌, ◌%◌, ◌≤◌, ◌<◌}
 use native.Mathlib.Decide.{ℕ_discrete}
 use native.Mathlib.Omega.{arith}
-use lib.Dec.{ltb, leb, eqb}
+use lib.Dec.{ltb, eqb}
 use lib.ListN.{length, get_or, drop}
-use borrow.Author.Tests.{ltb-true, lt-ltb, le-leb, leb-true, leb-false, eqb-true, eq-eqb, ne_eqb, not-false, not-true}
+use borrow.Author.Tests.{leb-false, eqb-true, eq-eqb, ne_eqb, not-false}
 use Rattle.lists.specs.Sum.{sum_of}
 use Rattle.lists.specs.Tests.{any_of, all_of}
 use Rattle.lists.proofs.Tests.{any_one}
@@ -20,7 +20,6 @@ use Rattle.call.proofs.Refusals.{none_hold, accepted_tail}
 use Rattle.options.specs.declared.Options.{Options}
 use Rattle.table.specs.declared.Table.{Table}
 use Rattle.table.proofs.Facts.{sound_options}
-use Rattle.history.specs.Entry.{Entry, is_close}
 use Rattle.history.specs.Rounds.{stake_in}
 use Rattle.close_spec.specs.Close.{close_conditions, close_effect}
 use Rattle.close_spec.proofs.Close.{close-gains}
@@ -33,13 +32,13 @@ use Rattle.host_spec.specs.declared.HostCall.{HostCall}
 use Rattle.host_spec.specs.declared.HostCall.TheVariants.{Play, Arrive, Leave}
 use Rattle.host_spec.specs.Cards.{hosted, arrived, no_card, is_here, holds, place_at, card_at, sits_here, place_of, with_card}
 use Rattle.host_spec.specs.Broken.{most_rounds, sound_card, sound_cards}
-use Rattle.host_spec.specs.Arrive.{arrive_conditions, arrive_effect}
-use Rattle.host_spec.specs.Leave.{leave_conditions, leave_effect}
+use Rattle.host_spec.specs.Arrive.{arrive_conditions}
+use Rattle.host_spec.specs.Leave.{leave_conditions}
 use Rattle.host_spec.specs.Close.{counted_card, counted_from}
 use Rattle.host_spec.specs.Step.{host_conditions, host_effect}
 use Rattle.host_spec.specs.History.{HostEntry, plays_of, with_play, seated_in, seated_after, is_at, ClosedRound, closed_round, rounds_after, rounds_since, gains}
 use Rattle.host_spec.specs.Claim.{card_in, TallyClaim}
-use Rattle.host_spec.proofs.Places.{seat_of, position_of, back_to, other_place, put_there, put_elsewhere, put-length}
+use Rattle.host_spec.proofs.Places.{put_there, put_elsewhere, put-length}
 use Rattle.host_spec.proofs.Sound.{SoundCards, card_of, put-sound, arrived-sound, left-sound, nowhere, place-within, place-holds}
 use Rattle.host_spec.proofs.Counting.{close_tally}
 use Rattle.host_spec.proofs.Bounds.{same_here, counted-sound}

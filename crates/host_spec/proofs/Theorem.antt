@@ -5,11 +5,11 @@ use mathlib.Core.List.{List, [], ◌∷◌}
 use Prim.Native.Nat.{ℕ, ◌<◌}
 use native.Mathlib.Omega.{arith}
 use lib.Dec.{eqb}
-use lib.ListN.{length, get_or, replicate, length-replicate, get_or-replicate}
+use lib.ListN.{get_or, length-replicate, get_or-replicate}
 use borrow.Author.Tests.{eqb-true}
 use Rattle.options.specs.declared.Options.{Options}
 use Rattle.table.specs.declared.Table.{Table}
-use Rattle.cashier_spec.specs.Opening.{open_number, opened}
+use Rattle.cashier_spec.specs.Opening.{open_number}
 use Rattle.cashier_spec.proofs.Opening.{open_good, accepted_table}
 use Rattle.books.specs.Books.{Claim}
 use Rattle.books.proofs.Claims.{claim}

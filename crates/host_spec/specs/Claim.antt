@@ -2,7 +2,7 @@
 use Rattle.std.specs.Prelude.{◌≡◌, true, false, cond, List, [], ◌∷◌, ℕ, ◌<◌, eqb, length, replicate}
 use Rattle.lists.specs.Sum.{sum_of}
 use Rattle.options.specs.declared.Options.{Options}
-use Rattle.cashier_spec.specs.Opening.{open_number, opened}
+use Rattle.cashier_spec.specs.Opening.{opened}
 use Rattle.books.specs.Books.{Claim}
 use Rattle.host_spec.specs.declared.GuestCard.{GuestCard}
 use Rattle.host_spec.specs.declared.Hosted.{Hosted}

@@ -1,7 +1,6 @@
 -- Request 2.13: what the accepted calls, arrivals and leavings alone come to: which card sits where, and its tally, "worked out from the history since that arrival". It sees no table: rounds, stakes,
 -- money laid, nets and prizes are those of the history of document 01.
-use Rattle.std.specs.Prelude.{Bool, true, false, cond, ◌&&◌, List, [], ◌∷◌, ℕ, ◌+◌, ◌-◌, ltb, eqb, ℤ, pos, ◌+ℤ◌, length, drop}
-use Rattle.lists.specs.Sum.{sum_of}
+use Rattle.std.specs.Prelude.{Bool, cond, ◌&&◌, List, [], ◌∷◌, ℕ, ◌-◌, ltb, eqb, ℤ, pos, ◌+ℤ◌, length, drop}
 use Rattle.lists.specs.Tests.{any_of}
 use Rattle.call.specs.declared.At.{At}
 use Rattle.options.specs.declared.Options.{Options}

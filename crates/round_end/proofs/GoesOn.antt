@@ -1,28 +1,27 @@
 -- A round can always go on: a waiting hand is one of a staked seat of the option, whose deciding guest has a stake; and in a dealt round somebody has staked.
-use mathlib.Core.Path.{◌≡◌, refl, sym, ◌∙◌, ap, ap₂}
-use mathlib.Core.Bool.{Bool, true, false, cond, not, ◌&&◌, and-eq-true_iff}
-use mathlib.Core.List.{List, [], ◌∷◌, ◌++◌}
-use Prim.Native.Nat.{ℕ, ◌+◌, ◌≤◌, ◌<◌}
+use mathlib.Core.Path.{◌≡◌, refl, sym, ◌∙◌, ap}
+use mathlib.Core.Bool.{Bool, true, false, cond, ◌&&◌, and-eq-true_iff}
+use mathlib.Core.List.{List}
+use Prim.Native.Nat.{ℕ, ◌≤◌, ◌<◌}
 use native.Mathlib.Decide.{dec_le}
 use native.Mathlib.Omega.{arith}
-use lib.Dec.{ltb, leb, eqb}
+use lib.Dec.{ltb, eqb}
 use lib.ListN.{length, take, length-map, length-take, get_or-map}
-use borrow.Author.Tests.{ltb-true, lt-ltb, lt-leb, eqb-true, eq-eqb, not-false}
+use borrow.Author.Tests.{ltb-true, lt-ltb, lt-leb, eq-eqb}
 use Rattle.lists.specs.Tests.{first_place}
 use Rattle.lists.proofs.Tests.{first_inside, first_passes}
 use Rattle.call.specs.declared.Call.TheVariants.{Stand, Close, Void}
-use Rattle.call.specs.Refusal.{Condition, first}
+use Rattle.call.specs.Refusal.{first}
 use Rattle.options.specs.declared.Options.{Options}
 use Rattle.options.specs.Decider.{largest_stake, deciding_position}
 use Rattle.payment.specs.Bank.{must_draw}
 use Rattle.rules.specs.SeatHand.{played_of}
 use Rattle.rules.specs.Waits.{waits}
-use Rattle.rules.specs.Turn.{seat_waits, some_waits, turn_seat}
+use Rattle.rules.specs.Turn.{seat_waits, turn_seat}
 use Rattle.table.specs.declared.Seat.{Seat}
 use Rattle.table.specs.declared.Table.{Table}
-use Rattle.table.specs.Seat.{missing_seat, guest_at, is_staked, stake, hands, decider}
-use Rattle.table.specs.Table.{seat_at, guest_of, seats_hands, is_dealt, up, some_staked}
-use Rattle.table.specs.Broken.{broken}
+use Rattle.table.specs.Seat.{missing_seat, stake, hands, decider}
+use Rattle.table.specs.Table.{seat_at, guest_of, seats_hands, is_dealt, up}
 use Rattle.table.proofs.Facts.{unbroken}
 use Rattle.table.proofs.Guests.{guest-seated}
 use Rattle.answer.specs.Conditions.{seat_conditions, guest_conditions}
@@ -33,7 +32,7 @@ use Rattle.close_spec.specs.Close.{close_conditions}
 use Rattle.close_spec.specs.Void.{void_conditions}
 use Rattle.books.specs.Laws.{Whole}
 use Rattle.engine.specs.Step.{step, number}
-use Rattle.round_end.specs.GoesOn.{waiting, in_turn, GoesOn, CanGoOn}
+use Rattle.round_end.specs.GoesOn.{waiting, in_turn, CanGoOn}
 
 -- the deciding position is one of the three, and has a stake where the seated guest has
 module _ (o : Options) (u : ℕ → ℕ) (seated : 0 < u 0) where

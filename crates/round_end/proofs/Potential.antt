@@ -1,17 +1,16 @@
 -- What can still happen without a card: hands that no decision has ended, and staked guests without an insurance. Every call of a dealt round takes one of them away or draws as many cards as it adds.
-use mathlib.Core.Path.{◌≡◌, refl, sym, ◌∙◌, ap, ap₂}
-use mathlib.Core.Bool.{Bool, true, false, cond, not, ◌&&◌, and-eq-true_iff}
-use mathlib.Core.List.{List, [], ◌∷◌, ◌++◌}
-use Prim.Native.Nat.{ℕ, zero, suc, ◌+◌, ◌-◌, ◌*◌, ◌≤◌, ◌<◌}
+use mathlib.Core.Path.{◌≡◌, ◌∙◌, ap}
+use mathlib.Core.Bool.{Bool, true, cond, ◌&&◌, and-eq-true_iff}
+use mathlib.Core.List.{List, ◌∷◌, ◌++◌}
+use Prim.Native.Nat.{ℕ, zero, suc, ◌+◌, ◌*◌, ◌≤◌, ◌<◌}
 use native.Mathlib.Decide.{dec_le}
 use native.Mathlib.Omega.{arith}
 use lib.Dec.{ltb, eqb}
 use lib.ListN.{length, take, drop, get_or, set}
-use lib.Seq.{split_at, get_or-set_same}
-use borrow.Author.Tests.{eqb-true, ltb-true, lt-ltb, ne_eqb, eq-eqb}
+use lib.Seq.{split_at}
+use borrow.Author.Tests.{ltb-true}
 use Rattle.lists.specs.Sum.{sum_of}
 use Rattle.lists.specs.Below.{sum_below}
-use Rattle.lists.specs.Tests.{any_of}
 use Rattle.lists.proofs.Sums.{sum-append, sum-set}
 use Rattle.lists.proofs.Below.{sum_below-same}
 use Rattle.lists.proofs.Tests.{first_inside, first_passes}

@@ -1,15 +1,14 @@
 -- One accepted call: between rounds nothing is counted, a deal begins with room for all that its hands and guests can still do, every call of a dealt round keeps the room, and a close finds it.
 use mathlib.Core.Path.{◌≡◌, refl, sym, ◌∙◌, ap, ap₂, subst}
-use mathlib.Core.Bool.{Bool, true, false, cond, not, ◌&&◌, ◌||◌, and-false, true≢false}
-use mathlib.Core.List.{List, [], ◌∷◌, ◌++◌, append-nil}
-use Prim.Native.Nat.{ℕ, zero, suc, ◌+◌, ◌-◌, ◌*◌, ◌≤◌, ◌<◌}
+use mathlib.Core.Bool.{Bool, true, false, cond, ◌&&◌, and-false, true≢false}
+use mathlib.Core.List.{List, [], ◌∷◌, append-nil}
+use Prim.Native.Nat.{ℕ, ◌+◌, ◌*◌, ◌≤◌, ◌<◌}
 use native.Mathlib.Decide.{ℕ_discrete}
 use native.Mathlib.Omega.{arith}
-use lib.Dec.{ltb, leb, eqb}
+use lib.Dec.{ltb, eqb}
 use lib.ListN.{length, get_or, set}
-use borrow.Author.Tests.{ltb-true, lt-ltb, le-leb, leb-true, eqb-true, eq-eqb, ne_eqb, not-false, eqb-false, ltb-false}
+use borrow.Author.Tests.{lt-ltb, le-leb, eq-eqb, ne_eqb, eqb-false, ltb-false}
 use Rattle.lists.specs.Sum.{sum_of}
-use Rattle.lists.specs.Below.{sum_below}
 use Rattle.lists.specs.Tests.{all_of}
 use Rattle.lists.proofs.Tests.{or_eq_false, cond_same}
 use Rattle.lists.proofs.Below.{sum_below-same}
@@ -17,8 +16,8 @@ use Rattle.lists.proofs.Counts.{sum_below-each}
 use Rattle.lists.proofs.Picks.{cond_most}
 use Rattle.call.specs.declared.At.{At}
 use Rattle.call.specs.declared.Call.{Call}
-use Rattle.call.specs.declared.Call.TheVariants.{Fill, Credit, Buy, Cash, Stake, Deal, Insure, Stand, Draw, Double, Split, Surrender, Even, Five, Close, Void, Load, Side}
-use Rattle.call.specs.Refusal.{Condition, first}
+use Rattle.call.specs.declared.Call.TheVariants.{Deal, Insure, Stand, Draw, Double, Split, Surrender, Even, Five, Close, Void}
+use Rattle.call.specs.Refusal.{first}
 use Rattle.options.specs.declared.Options.{Options}
 use Rattle.options.specs.Device.{is_box}
 use Rattle.rules.specs.SeatHand.{Played, by_stand, by_double, by_surrender, by_even, by_five}
@@ -50,8 +49,7 @@ use Rattle.decisions_spec.proofs.Surrender.{SurrenderAccepted, surrender-accepte
 use Rattle.answer.specs.Conditions.{seat_conditions, guest_conditions}
 use Rattle.call.proofs.Refusals.{none_hold}
 use Rattle.decisions_spec.proofs.Turn.{TurnAccepted, turn-accepted, history_turn}
-use Rattle.host_spec.specs.declared.HostCall.{HostCall}
-use Rattle.host_spec.specs.declared.HostCall.TheVariants.{Play, Arrive, Leave}
+use Rattle.host_spec.specs.declared.HostCall.TheVariants.{Play}
 use Rattle.host_spec.specs.History.{HostEntry, plays_of, with_play}
 use Rattle.host_spec.proofs.Steps.{entry_of}
 use Rattle.round_end.specs.Rounds.{RoundCount, with_call, takes_after, open_after, open_by, open_round, closed_by, closed_rounds}

@@ -2,12 +2,11 @@
 use mathlib.Core.Path.{◌≡◌, refl, sym, ◌∙◌, ap}
 use mathlib.Core.Bool.{Bool, true, false, cond, not, ◌&&◌, true≢false}
 use mathlib.Core.List.{List, [], ◌∷◌}
-use Prim.Native.Nat.{ℕ, ◌+◌, ◌≤◌}
+use Prim.Native.Nat.{ℕ, ◌+◌}
 use native.Mathlib.Omega.{arith}
-use lib.Dec.{leb, eqb}
+use lib.Dec.{eqb}
 use borrow.Author.Tests.{eqb-true, le-leb, ne_eqb}
 use Rattle.lists.specs.Tests.{all_of}
-use Rattle.call.specs.declared.At.{At}
 use Rattle.call.specs.declared.Call.{Call}
 use Rattle.call.specs.declared.Call.TheVariants.{Fill, Credit, Buy, Cash, Stake, Deal, Insure, Stand, Draw, Double, Split, Surrender, Even, Five, Close, Void, Load, Side}
 use Rattle.call.specs.Refusal.{first}
@@ -36,7 +35,6 @@ use Rattle.host_spec.proofs.Steps.{HostGood, entry_of, host_good}
 use Rattle.host_spec.proofs.Theorem.{opened_good}
 use Rattle.round_end.specs.Rounds.{open_round, closed_by, closed_rounds, rounds_of}
 use Rattle.round_end.specs.Bound.{ends, RoundsEnd}
-use Rattle.round_end.proofs.Potential.{potential, slack}
 use Rattle.round_end.proofs.Steps.{Bounded, quiet, stand-step, even_step, five-step, draw-step, double-step, split_step, insure-step, surrender-step, deal-step, close-step, void-step}
 
 module _ (o : Options) (opening : List ℕ) (hs : List HostEntry) (h : Hosted) (g : HostGood o opening hs h) (b : Bounded o opening hs) where

@@ -1,6 +1,6 @@
 -- Request 2.14: "the accepted calls of a dealt round, from its deal to its close or, while it is open, the list's end, and without a void", and "the cards drawn in it", worked out from the history
 -- alone, arrivals and leavings (request 2.13) among the calls.
-use Rattle.std.specs.Prelude.{Bool, cond, List, [], ◌∷◌, ℕ, ◌+◌}
+use Rattle.std.specs.Prelude.{cond, List, [], ◌∷◌, ℕ, ◌+◌}
 use Rattle.options.specs.declared.Options.{Options}
 use Rattle.history.specs.Entry.{Entry, is_deal, is_close, is_end}
 use Rattle.history.specs.Rounds.{is_dealt_round, staked_below}

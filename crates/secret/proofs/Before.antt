@@ -12,7 +12,6 @@ use Rattle.call.specs.Refusal.{first}
 use Rattle.options.specs.Device.{is_box}
 use Rattle.table.specs.declared.Table.{Table}
 use Rattle.table.specs.Table.{is_dealt}
-use Rattle.table.specs.Broken.{sound}
 use Rattle.history.specs.Entry.{Entry, is_deal, is_load}
 use Rattle.close_spec.specs.Close.{close_conditions}
 use Rattle.engine.specs.Step.{next}

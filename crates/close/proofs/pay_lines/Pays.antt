@@ -1,7 +1,7 @@
 -- Stakes, side stakes and insurances are 32 bits wide, so pay and net are far from 64 bits, and a net is kept as it is.
 use mathlib.Core.Path.{◌≡◌, ap}
 use mathlib.Core.List.{List}
-use Prim.Native.Nat.{ℕ, ◌-◌, ◌*◌, ◌<◌, ◌≤◌}
+use Prim.Native.Nat.{ℕ, ◌*◌, ◌<◌, ◌≤◌}
 use native.Mathlib.Omega.{arith}
 use Rattle.lists.proofs.Picks.{cond_most}
 use Rattle.options.specs.declared.Options.{Options}

@@ -1,7 +1,7 @@
 -- `discard_drawn` goes card by card: before each turn the first i cards of the order are in the array of the discards.
 use mathlib.Core.Path.{◌≡◌, refl, ◌∙◌, ap}
 use mathlib.Core.List.{List}
-use Prim.Native.Nat.{ℕ, ◌+◌, ◌-◌}
+use Prim.Native.Nat.{ℕ, ◌+◌}
 use native.Mathlib.Omega.{arith}
 use lib.ListN.{length, take, get_or, set}
 use lib.Seq.{sets}

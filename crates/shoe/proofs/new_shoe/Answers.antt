@@ -1,7 +1,7 @@
 -- `new_shoe` copies card by card: before each turn the first i cards stand in the array, and zeros behind them.
 use mathlib.Core.Path.{◌∙◌, ap}
 use mathlib.Core.List.{List}
-use Prim.Native.Nat.{ℕ, ◌-◌}
+use Prim.Native.Nat.{ℕ}
 use native.Mathlib.Omega.{arith}
 use lib.ListN.{get_or, set}
 use Rattle.lists.proofs.Stores.{copy_next}

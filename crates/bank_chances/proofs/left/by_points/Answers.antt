@@ -1,6 +1,5 @@
 -- `by_points` adds the counts face by face to that of its stand-in: before each turn they count the cards of the first i faces.
 use mathlib.Core.Path.{◌≡◌, refl}
-use Prim.Native.Nat.{◌-◌}
 use native.Mathlib.Omega.{arith}
 use mir.Syntax.{w8}
 use mir.Val.{Fits}

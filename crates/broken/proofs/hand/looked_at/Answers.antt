@@ -1,7 +1,6 @@
 -- `looked_at` goes place by place: before each turn it holds what the first i hands decide and come to, and neither sum is more than stakes of 32 bits can be.
 use mathlib.Core.Path.{◌≡◌, ap, ap₂, ◌∙◌}
 use mathlib.Core.Bool.{◌&&◌}
-use Prim.Native.Nat.{◌-◌}
 use native.Mathlib.Numerals.{add-one}
 use native.Mathlib.Omega.{arith}
 use lib.ListN.{length, get_or}

@@ -1,6 +1,5 @@
 -- The counters that hold the cards left and the discards have room for the hands' cards; those counted beside, what is out is what was drawn.
 use mathlib.Core.Path.{refl, sym, ◌∙◌}
-use mathlib.Core.Bool.{and-false}
 use native.Mathlib.Omega.{arith}
 use Rattle.card_count.specs.Aids.Counters.{no_counts}
 use Rattle.card_count.proofs.conserved.Beside.{room-kept}

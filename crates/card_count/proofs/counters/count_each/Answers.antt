@@ -1,6 +1,6 @@
 -- `count_each` goes card by card: before each turn the first i cards are counted.
 use mathlib.Core.Path.{ap, ◌∙◌}
-use Prim.Native.Nat.{◌+◌, ◌-◌}
+use Prim.Native.Nat.{◌+◌}
 use native.Mathlib.Omega.{arith}
 use lib.Seq.{take_all}
 use Rattle.card_count.specs.Aids.Counters.{counted_all}

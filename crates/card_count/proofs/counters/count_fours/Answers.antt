@@ -1,6 +1,6 @@
 -- `count_fours` goes four cards at a time: before each turn the first 4 * k cards are counted.
 use mathlib.Core.Path.{◌≡◌, ap, ◌∙◌}
-use Prim.Native.Nat.{ℕ, ◌+◌, ◌*◌, ◌-◌}
+use Prim.Native.Nat.{ℕ, ◌+◌, ◌*◌}
 use native.Mathlib.Omega.{arith}
 use lib.ListN.{take}
 use Rattle.card_count.specs.Aids.Counters.{counted_all}

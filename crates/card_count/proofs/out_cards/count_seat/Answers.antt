@@ -1,6 +1,5 @@
 -- `count_seat` goes place by place: before each turn the cards of the first i hands are counted.
 use mathlib.Core.Path.{◌≡◌, sym, ap, ◌∙◌}
-use Prim.Native.Nat.{◌-◌}
 use native.Mathlib.Omega.{arith}
 use lib.ListN.{length, take}
 use Rattle.lists.specs.Flat.{flat}

@@ -4,7 +4,7 @@ use mathlib.Core.Path.{◌≡◌, refl, sym, ◌∙◌, ap}
 use native.Mathlib.Omega.{arith}
 use Rattle.table.specs.declared.Seat.{Seat}
 use Rattle.table.specs.Seat.{guest_at, purse}
-use Rattle.table.specs.Table.{seat_at, guest_of}
+use Rattle.table.specs.Table.{seat_at}
 use Rattle.answer.proofs.moved.Laws.{moved-refused, seat-accepted}
 use Rattle.cashier_spec.specs.Buy.{buy_conditions, buy_effect}
 use Rattle.cashier_spec.proofs.Buy.{BuyAccepted, buy-accepted, buy-fits}

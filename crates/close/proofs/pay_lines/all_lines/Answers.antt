@@ -1,6 +1,5 @@
 -- `all_lines` goes seat by seat: before each turn the first seats have their lines, at most 27 each.
 use mathlib.Core.Path.{◌≡◌, refl, sym, ap}
-use Prim.Native.Nat.{◌-◌}
 use native.Mathlib.Omega.{arith}
 use lib.ListN.{length, take, get_or}
 use lib.Seq.{take_all}

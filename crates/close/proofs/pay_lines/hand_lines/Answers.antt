@@ -1,7 +1,7 @@
 -- `hand_lines` goes place by place: before each turn the first hands have their lines, one each.
 use mathlib.Core.Path.{◌≡◌, sym, ◌∙◌, ap}
 use mathlib.Core.List.{List, [], ◌∷◌, map}
-use Prim.Native.Nat.{◌-◌, ◌<◌, min}
+use Prim.Native.Nat.{◌<◌, min}
 use native.Mathlib.Omega.{arith}
 use lib.ListN.{length, take, get_or}
 use lib.Seq.{take_all}

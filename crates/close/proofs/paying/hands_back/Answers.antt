@@ -1,7 +1,6 @@
 -- `hands_back` adds hand by hand: before each turn the sum is that of the first hands, and for each hand at most four times a stake of 32 bits goes
 -- back.
 use mathlib.Core.Path.{◌≡◌, ◌∙◌, ap}
-use Prim.Native.Nat.{◌-◌}
 use native.Mathlib.Omega.{arith}
 use lib.ListN.{length, get_or}
 use Rattle.lists.specs.Sum.{sum_of}

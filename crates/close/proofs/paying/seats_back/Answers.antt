@@ -1,6 +1,5 @@
 -- `seats_back` adds seat by seat: before each turn the sum is that of the first seats, each with the bound of `seat_back`.
 use mathlib.Core.Path.{◌≡◌, ◌∙◌, ap}
-use Prim.Native.Nat.{◌-◌}
 use native.Mathlib.Numerals.{add-one}
 use native.Mathlib.Omega.{arith}
 use lib.ListN.{length}

@@ -1,6 +1,5 @@
 -- `ended_seats` goes seat by seat: before each turn the first i seats are as the end of the round leaves them.
 use mathlib.Core.Path.{◌≡◌, ◌∙◌, ap}
-use Prim.Native.Nat.{◌-◌}
 use native.Mathlib.Omega.{arith}
 use lib.ListN.{length}
 use Rattle.close.specs.Aids.Ended.{ended_seat}

@@ -1,6 +1,5 @@
 -- `staked_seats` counts seat by seat: before each turn the count is that of the first i seats.
 use mathlib.Core.Path.{◌≡◌, ◌∙◌, ap}
-use Prim.Native.Nat.{◌-◌}
 use native.Mathlib.Omega.{arith}
 use lib.ListN.{length}
 use lib.Seq.{take_all}

@@ -1,7 +1,7 @@
 -- `counted` counts the cards by byte and takes the counters of the 52 faces, one after the other.
 use mathlib.Core.Path.{◌≡◌}
 use mathlib.Core.List.{◌++◌}
-use Prim.Native.Nat.{◌+◌, ◌-◌, ◌≤◌}
+use Prim.Native.Nat.{◌-◌, ◌≤◌}
 use lib.ListN.{length, take}
 use Rattle.faces_left.specs.FacesLeft.{counts_below}
 use Rattle.faces_left.proofs.counts.counted.Given as goal

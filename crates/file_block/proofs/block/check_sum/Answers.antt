@@ -1,6 +1,6 @@
 -- `check_sum` adds byte by byte: before each turn it has the sum of the first i bytes, each term at most 255 × 508.
 use mathlib.Core.Path.{◌≡◌, ap, ◌∙◌}
-use Prim.Native.Nat.{ℕ, ◌+◌, ◌-◌, ◌*◌, ◌<◌}
+use Prim.Native.Nat.{ℕ, ◌+◌, ◌*◌, ◌<◌}
 use native.Mathlib.Omega.{arith}
 use lib.ListN.{length, take, get_or}
 use Rattle.file_spec.specs.Block.{weighed}

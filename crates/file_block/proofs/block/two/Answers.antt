@@ -1,7 +1,5 @@
 -- The lower byte, and 256 times the higher one.
 use mathlib.Core.Path.{sym}
-use Prim.Native.Nat.{◌+◌}
-use native.Mathlib.Omega.{arith}
 use Rattle.file_block.proofs.Bytes.{number_of-two}
 use Rattle.file_block.proofs.block.two.Goals as goal
 

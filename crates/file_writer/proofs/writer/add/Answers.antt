@@ -6,7 +6,6 @@ use Prim.Native.Nat.{ℕ, ◌+◌}
 use borrow.Author.Tests.{eq-eqb, ne_eqb}
 use lib.Dec.{eqb}
 use Rattle.history.specs.Entry.{Entry, is_load}
-use Rattle.call.specs.Call.{kind}
 use Rattle.file_spec.specs.CallBlock.{call_bytes}
 use Rattle.file_spec.specs.File.{writable}
 use Rattle.file_spec.specs.Writer.{block_of}

@@ -1,6 +1,6 @@
 -- `put_code` stores byte by byte: before each turn the first i bytes stand there.
 use mathlib.Core.Path.{◌≡◌, ap, ◌∙◌}
-use Prim.Native.Nat.{◌+◌, ◌-◌, ◌<◌, ℕ}
+use Prim.Native.Nat.{◌+◌, ◌<◌, ℕ}
 use native.Mathlib.Omega.{arith}
 use native.Mathlib.Numerals.{add-one}
 use lib.ListN.{length, set, get_or}

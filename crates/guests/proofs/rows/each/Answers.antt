@@ -12,3 +12,8 @@ pub loop-at-preserved : goal.loop-at-preserved
 loop-at-preserved g c =
     let within : c.end_of-end.result ≤ length c.args.text.now = rw c.end_of-end.ensures (line-within c.args.text.now c.loop-at.at (omega arith)) in
     omega arith
+
+pub overflow_add-at : goal.overflow_add-at
+overflow_add-at g c =
+    let within : c.end_of-end.result ≤ length c.args.text.now = rw c.end_of-end.ensures (line-within c.args.text.now c.loop-at.at (omega arith)) in
+    omega arith

@@ -1,6 +1,5 @@
 -- Place by place: before each turn the first k cards are counted, the others still to come.
 use mathlib.Core.Path.{◌≡◌, refl, ◌∙◌, ap}
-use Prim.Native.Nat.{◌-◌}
 use native.Mathlib.Omega.{arith}
 use lib.ListN.{length, length-set}
 use Rattle.host_spec.specs.Cards.{hosted}

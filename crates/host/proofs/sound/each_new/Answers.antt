@@ -1,8 +1,8 @@
 -- Place by place: before each turn each of the first k holds a card that sits nowhere before, and one that does not decides.
 use mathlib.Core.Path.{◌≡◌, sym, ◌∙◌}
-use mathlib.Core.Bool.{Bool, true}
+use mathlib.Core.Bool.{Bool}
 use mathlib.Core.List.{List}
-use Prim.Native.Nat.{ℕ, ◌-◌}
+use Prim.Native.Nat.{ℕ}
 use native.Mathlib.Omega.{arith}
 use Rattle.lists.specs.Below.{all_below}
 use Rattle.lists.proofs.Below.{below_passes}

@@ -1,7 +1,6 @@
 -- A place without a card is passed over; else place by place: before each turn the card sits at none of the first j.
 use mathlib.Core.Path.{◌≡◌, sym, ◌∙◌, ap}
-use mathlib.Core.Bool.{true, not}
-use Prim.Native.Nat.{◌-◌}
+use mathlib.Core.Bool.{not}
 use native.Mathlib.Omega.{arith}
 use Rattle.lists.specs.Below.{all_below}
 use Rattle.lists.proofs.Below.{below_passes}

@@ -1,6 +1,5 @@
 -- `wagers` adds hand by hand: before each turn the sum is that of the first i hands, and each wager is at most twice a stake of 32 bits.
 use mathlib.Core.Path.{◌≡◌, ◌∙◌}
-use Prim.Native.Nat.{◌-◌}
 use native.Mathlib.Omega.{arith}
 use lib.ListN.{length, get_or}
 use Rattle.lists.specs.Sum.{sum_of}

@@ -1,6 +1,6 @@
 -- `table_sums` adds seat by seat: before each turn the sums are those of the first i seats, each at most one past the limit for each guest.
 use mathlib.Core.Path.{◌≡◌, refl, ◌∙◌, ap}
-use Prim.Native.Nat.{◌-◌, ◌*◌}
+use Prim.Native.Nat.{◌*◌}
 use native.Mathlib.Omega.{arith}
 use lib.ListN.{length, get_or}
 use lib.Seq.{take_all}

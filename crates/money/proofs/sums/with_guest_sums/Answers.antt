@@ -35,10 +35,13 @@ overflow_add-result-5 c = let few = within (goal.at.overflow_add-result-5 c).Sta
 
 pub returns : goal.returns
 returns c =
-    let start = c in record { same = rw (
+    let start = c in record {
+      same = rw (
         c.laid.ensures,
         c.prizes.ensures,
         c.cover.ensures,
         c.side_cover.ensures,
         c.cut.ensures,
-      ); small = within (goal.at.returns start).Start }
+      );
+      small = within (goal.at.returns start).Start;
+    }

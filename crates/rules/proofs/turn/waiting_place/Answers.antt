@@ -1,7 +1,5 @@
 -- `waiting_place` looks place by place: before each turn none of the first i hands waits.
 use mathlib.Core.Path.{◌≡◌, sym, ◌∙◌}
-use mathlib.Core.Bool.{false}
-use Prim.Native.Nat.{◌-◌}
 use native.Mathlib.Numerals.{add-one}
 use native.Mathlib.Omega.{arith}
 use lib.ListN.{length}
@@ -9,7 +7,6 @@ use lib.Seq.{take_all}
 use Rattle.lists.specs.Tests.{any_of}
 use Rattle.lists.proofs.Tests.{any_take, first_here, first-none}
 use Rattle.rules.specs.SeatHand.{played_of, hands_of}
-use Rattle.rules.specs.Waits.{waits}
 use Rattle.rules.proofs.seat_hand.Places.{none, many_hands, hand_at}
 use borrow.Author.Rules.{rules}
 use Rattle.rules.proofs.turn.waiting_place.Goals as goal

@@ -1,6 +1,5 @@
 -- Seat by seat: before each turn the first i seats are known to have their lengths.
 use mathlib.Core.Path.{◌≡◌}
-use Prim.Native.Nat.{◌-◌}
 use native.Mathlib.Omega.{arith}
 use borrow.Author.Count.{below_none, below_more}
 use lib.ListN.{length, get_or}

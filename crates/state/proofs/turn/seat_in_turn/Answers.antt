@@ -1,7 +1,6 @@
 -- `seat_in_turn` looks seat by seat: before each turn no hand of the first i seats waits, and the end where it halts is the ninth seat's once it is reached.
 use mathlib.Core.Path.{◌≡◌, refl, sym, ◌∙◌, ap}
-use mathlib.Core.Bool.{false}
-use Prim.Native.Nat.{ℕ, ◌-◌, ◌≤◌}
+use Prim.Native.Nat.{ℕ, ◌≤◌}
 use native.Mathlib.Omega.{arith}
 use lib.ListN.{length}
 use Rattle.lists.specs.Tests.{any_of, first_place}

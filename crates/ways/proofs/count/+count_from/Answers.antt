@@ -1,5 +1,5 @@
 -- What close says of the table decides; each decision that is accepted begins as many lists as there are from the table after it.
-use Rattle.std.proofs.Common.{◌≡◌, ◌+◌, ◌-◌, ◌<◌, ◌≤◌, ℕ, length, take, refl, sym, ap, ◌∙◌, arith}
+use Rattle.std.proofs.Common.{◌≡◌, ◌-◌, ◌<◌, ℕ, length, refl, sym, ap, ◌∙◌, arith}
 use native.Mathlib.Nat.{add-zero}
 use Rattle.lists.specs.Sum.{sum_of}
 use Rattle.ways.specs.Ways.{ways_from}

@@ -1,8 +1,7 @@
 -- The decisions are gone through in their order: before each turn the place is the number of lists that begin with one of the first i, and what is left of it. It is inside, so that
 -- the loop finds the decision.
 use mathlib.Core.Path.{◌≡◌, sym, ◌∙◌, ap}
-use mathlib.Core.Logic.{⊎_elim}
-use Prim.Native.Nat.{ℕ, ◌-◌, ◌<◌}
+use Prim.Native.Nat.{ℕ, ◌<◌}
 use native.Mathlib.Nat.{zero-add}
 use native.Mathlib.Omega.{arith}
 use lib.ListN.{length, take}

@@ -1,6 +1,5 @@
 -- Decision by decision: before each turn so many are chosen, and the list goes on as one of the table behind them. Where close is accepted it is chosen, and with eight decisions it is.
 use Prim.Native.Nat.{◌-◌}
-use lib.ListN.{length}
 use Rattle.ways.proofs.Picking.{Picking}
 use Rattle.ways.proofs.pick.pick_list.Given as goal
 
