@@ -15,23 +15,25 @@ cargo:
 test: toolchain
 	@.ci/run
 
+# rt run proves, compiles and runs a program of crates/, proved and compiled anew only where something has changed. What it says itself goes to standard error.
 session: toolchain
-	@rt check session >&2 && target/bin/session
+	@cd crates/session && rt run
 
 replay: toolchain
-	@rt check replay >&2 && target/bin/replay < $(FILE)
+	@(cd crates/replay && rt run) < $(FILE)
 
 record: toolchain
-	@rt check record >&2 && target/bin/record
+	@cd crates/record && rt run
 
+# Compiled by a run with nothing to read. The table itself runs in this folder, where its session files are looked for.
 table: toolchain
-	@rt check terminal >&2 && target/bin/terminal
+	@(cd crates/terminal && rt run) < /dev/null > /dev/null && crates/terminal/out/terminal
 
 # Proved and compiled anew where a source is newer than the archive.
 LIBRARY = target/library
 
-$(LIBRARY)/libdiscgauze.a: crates.txt $(shell find crates -name '*.rt' -o -name '*.antt') | toolchain
-	@rt staticlib discgauze >&2 && mkdir -p $(LIBRARY) && cp target/staticlib/libdiscgauze.a $@
+$(LIBRARY)/libdiscgauze.a: crates.txt $(shell find crates -name out -prune -o \( -name '*.rt' -o -name '*.antt' \) -print) | toolchain
+	@(cd crates/discgauze_c && rt lib) >&2 && mkdir -p $(LIBRARY) && cp crates/discgauze_c/out/libdiscgauze_c.a $@
 
 $(LIBRARY)/discgauze.h: include/discgauze.h
 	@mkdir -p $(LIBRARY) && cp $< $@
@@ -54,19 +56,19 @@ examples: compiler cargo library
 COUNTED = valgrind --tool=callgrind --callgrind-out-file=/dev/null
 
 bench: toolchain
-	@rt check bench bench_file >&2
-	@calls=1000000 && begin=$$(date +%s%N) && target/bin/bench $$calls && end=$$(date +%s%N) && \
+	@for each in bench bench_file; do (cd crates/$$each && rt run -- 0) >&2 || exit 1; done
+	@calls=1000000 && begin=$$(date +%s%N) && crates/bench/out/bench $$calls && end=$$(date +%s%N) && \
 	echo "$$(( (end - begin) / calls )) nanoseconds a call"
-	@if command -v valgrind >/dev/null; then $(COUNTED) target/bin/bench 20000 2>&1 | awk '/Collected/ { printf "%d instructions a call\n", $$NF / 20000 }'; \
+	@if command -v valgrind >/dev/null; then $(COUNTED) crates/bench/out/bench 20000 2>&1 | awk '/Collected/ { printf "%d instructions a call\n", $$NF / 20000 }'; \
 	else echo "instructions a call are counted where valgrind is installed"; fi
-	@calls=1000000 && begin=$$(date +%s%N) && target/bin/bench_file $$calls && end=$$(date +%s%N) && \
+	@calls=1000000 && begin=$$(date +%s%N) && crates/bench_file/out/bench_file $$calls && end=$$(date +%s%N) && \
 	echo "$$(( (end - begin) / calls )) nanoseconds a call replayed"
-	@if command -v valgrind >/dev/null; then { $(COUNTED) target/bin/bench_file 0; $(COUNTED) target/bin/bench_file 20000; } 2>&1 | \
+	@if command -v valgrind >/dev/null; then { $(COUNTED) crates/bench_file/out/bench_file 0; $(COUNTED) crates/bench_file/out/bench_file 20000; } 2>&1 | \
 	awk '/Collected/ { before = all; all = $$NF } END { printf "%d instructions a call replayed\n", (all - before) / 20000 }'; \
 	else echo "instructions a call replayed are counted where valgrind is installed"; fi
 
 fmt: toolchain
-	@rt fmt
+	@for each in crates/*/; do (cd $$each && rt fmt) || exit 1; done
 
 # The table in the browser: make page writes target/page/, a folder that a browser opens from disk. make page-test: its test. make pictures: those of the README.
 .PHONY: page page-test pictures
