@@ -21,7 +21,7 @@ within_facts r e =
     let both = (and-eq-true_iff (leb r.least r.value) (leb r.value r.most)).0 e in
     (leb-true _ _ both.0, leb-true _ _ both.1)
 
--- the three tests of `inRange`
+-- the three tests of `in_range`
 tests : (o : Options) → in_range o ≡ true → ((all_of within (ranges o) ≡ true) × (is_even_number o.smallest ≡ true)) × (is_even_number o.largest ≡ true)
 unfolding in_range
 tests o e =

@@ -33,7 +33,7 @@ use Rattle.table.proofs.Guests.{guest-hands, guest_beyond}
 use Rattle.table.proofs.Facts.{decks_416, still_begun, nothing-laid, unstaked_prizes}
 use Rattle.table.proofs.SeatChange.{sum_out}
 
--- a seat at the end of the round, with its guests' new purses: `purse-of` is asked of each guest
+-- a seat at the end of the round, with its guests' new purses: `purse_of` is asked of each guest
 abbrev pub cleared : (Seat → ℕ) → Seat → Seat
 cleared purse-of s = cleared_seat (λ p. purse-of (guest_at s p))
 

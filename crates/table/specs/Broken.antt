@@ -61,7 +61,7 @@ sound_number o i s = ltb i o.seats || (is_nobody s.money && eqb s.hands.many 0)
 unfoldable pub sound_stake : Options → Seat → Bool
 sound_stake o s = eqb (stake s) 0 || stake_permitted o (stake s)
 
--- Here and below `inRound` says whether a round is dealt, and `up` is the up card.
+-- Here and below `in_round` says whether a round is dealt, and `up` is the up card.
 unfoldable pub sound_insurance : Options → Bool → ℕ → Seat → Bool
 sound_insurance o in_round up s = eqb (insurance s) 0 || (in_round && is_ace up && is_staked s && insurance_permitted o (stake s) (insurance s))
 

@@ -1,5 +1,5 @@
 -- Document 01, "The seventeen calls", the guest, and requests 2.6 and 2.8: a seat, the money of its guests and its hands; what a guest has laid and won in this round. A seat is
--- read as that of the guest in position 0, the seated one; `guestAt` reads it as that of another, as if alone there.
+-- read as that of the guest in position 0, the seated one; `guest_at` reads it as that of another, as if alone there.
 use Rattle.std.specs.Prelude.{Bool, cond, ◌&&◌, ◌||◌, List, [], ◌∷◌, map, ℕ, ◌+◌, ◌-◌, ltb, eqb, length, take, get_or, set, replicate}
 use Rattle.lists.specs.Sum.{sum_of}
 use Rattle.lists.specs.Flat.{flat}

@@ -1,4 +1,4 @@
--- Request 2.11: "the lists of at most 8 in_turn_lem decisions, all accepted, that leave no hand waiting; a list after which close would give 18 is left out". Said of one list, by
+-- Request 2.11: "the lists of at most 8 in-turn decisions, all accepted, that leave no hand waiting; a list after which close would give 18 is left out". Said of one list, by
 -- the engine's own run of its calls. Close gives 0 exactly where no hand waits, which is 7, and it would not give 18 (`CloseSays`, Laws.antt).
 use Rattle.std.specs.Prelude.{Bool, ◌&&◌, List, [], ℕ, leb, eqb, length}
 use Rattle.lists.specs.Tests.{all_of, first_place}

@@ -1,4 +1,4 @@
--- The seat with its first waiting hand ended by this code: what `endEffect` puts in the seat's place.
+-- The seat with its first waiting hand ended by this code: what `end_effect` puts in the seat's place.
 use Rattle.std.specs.Prelude.{ℕ}
 use Rattle.options.specs.declared.Options.{Options}
 use Rattle.rules.specs.Turn.{waiting_place}

@@ -1,4 +1,4 @@
--- The hand and the seat that `cardEffect` makes, over the options, the up card and the seat.
+-- The hand and the seat that `card_effect` makes, over the options, the up card and the seat.
 use Rattle.std.specs.Prelude.{ℕ, set}
 use Rattle.cards.specs.Hand.{with_card}
 use Rattle.options.specs.declared.Options.{Options}

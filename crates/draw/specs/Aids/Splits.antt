@@ -1,4 +1,4 @@
--- The seat that `splitEffect` makes, over the options, the up card and the two cards drawn, and what an accepted split gives its effect.
+-- The seat that `split_effect` makes, over the options, the up card and the two cards drawn, and what an accepted split gives its effect.
 use Rattle.std.specs.Prelude.{◌≡◌, true, ℕ, ◌+◌, ◌≤◌, ◌<◌, get_or}
 use Rattle.cards.specs.Hand.{cards_of}
 use Rattle.options.specs.declared.Options.{Options}

@@ -52,7 +52,7 @@ pub record HoldsNothing (s : Seat) : Type 0 where
   pub no_bets : NoBets s
   pub no_hands : s.hands.many ≡ 0
 
--- A guest of the seat of number i; `inRound` is whether a round is dealt, `up` the up card.
+-- A guest of the seat of number i; `in_round` is whether a round is dealt, `up` the up card.
 pub record SoundGuest (o : Options) (in_round : Bool) (up i : ℕ) (s : Seat) : Type 0 where
   pub beyond : o.seats ≤ i → HoldsNothing s
   pub stake_fits : 0 < stake s → stake_permitted o (stake s) ≡ true
