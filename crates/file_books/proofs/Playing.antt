@@ -1,32 +1,31 @@
 -- An accepted call can be written: its seat is one of nine, its position one of three, its amount is on the table or comes onto it within 10^15, and a load's order is valid. What a file keeps of the calls plays
 -- as they did: of all that is lent a call reads an order only where it is a load.
 use mathlib.Core.Path.{◌≡◌, refl, sym, ◌∙◌, ap, ap₂, subst}
-use mathlib.Core.Bool.{Bool, true, false, cond, not, ◌&&◌, ◌||◌, true≢false}
+use mathlib.Core.Bool.{Bool, true, false, cond, ◌&&◌, true≢false}
 use mathlib.Core.List.{List, [], ◌∷◌, ◌++◌, map, reverse, reverse_aux, append-nil}
 use Prim.Native.Nat.{ℕ, ◌+◌, ◌≤◌, ◌<◌}
 use native.Mathlib.Decide.{dec_le}
 use native.Mathlib.Omega.{arith}
-use lib.Dec.{ltb, leb, eqb}
+use lib.Dec.{eqb}
 use lib.ListN.{length, get_or-eq_default}
 use borrow.Author.Tests.{lt-ltb, le-leb, leb-false, eqb-true}
 use Rattle.lists.specs.Tests.{all_of}
 use Rattle.lists.proofs.Sums.{sum_has}
 use Rattle.lists.proofs.Tests.{where_test}
-use Rattle.call.specs.declared.At.{At}
 use Rattle.call.specs.declared.Call.{Call}
 use Rattle.call.specs.declared.Call.TheVariants.{Fill, Credit, Buy, Cash, Stake, Deal, Insure, Stand, Draw, Double, Split, Surrender, Even, Five, Close, Void, Load, Side}
 use Rattle.call.specs.Call.{kind, seat, position, amount}
 use Rattle.call.specs.Refusal.{Condition, first}
-use Rattle.call.proofs.Refusals.{none_hold, NoneHold, first_past}
+use Rattle.call.proofs.Refusals.{none_hold, first_past}
 use Rattle.table.specs.declared.Money.{Money}
 use Rattle.table.specs.declared.Table.{Table}
 use Rattle.table.specs.Seat.{missing_seat, over_guests, purse}
-use Rattle.table.specs.Table.{seat_at, guest_of, no_such_seat}
+use Rattle.table.specs.Table.{seat_at, guest_of}
 use Rattle.table.specs.Money.{most_money, all_money}
 use Rattle.table.specs.Broken.{broken}
 use Rattle.table.proofs.Facts.{unbroken, seat_of-nine}
 use Rattle.table.proofs.Guests.{over_has, guest_missing}
-use Rattle.answer.specs.Conditions.{in_round, seat_conditions, guest_conditions, no_position}
+use Rattle.answer.specs.Conditions.{in_round, seat_conditions, guest_conditions}
 use Rattle.table.specs.Shoe.{valid_order}
 use Rattle.history.specs.Entry.{Entry, is_load}
 use Rattle.cashier_spec.proofs.Fill.{fill-accepted}

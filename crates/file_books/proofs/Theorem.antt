@@ -1,15 +1,13 @@
 -- The theorems of a written session, put together of what the blocks give.
 use mathlib.Core.Path.{◌≡◌, refl, ◌∙◌, ap, subst}
 use mathlib.Core.Bool.{true}
-use mathlib.Core.List.{List, [], map}
+use mathlib.Core.List.{List, []}
 use Prim.Native.Nat.{ℕ}
 use borrow.Author.Tests.{not-false}
-use Rattle.call.specs.Refusal.{first}
 use Rattle.call.proofs.Refusals.{none_hold}
 use Rattle.lists.specs.Tests.{all_of}
 use Rattle.options.specs.declared.Options.{Options}
 use Rattle.options.specs.Ranges.{in_range}
-use Rattle.table.specs.declared.Table.{Table}
 use Rattle.table.specs.Shoe.{valid_order}
 use Rattle.history.specs.Entry.{Entry}
 use Rattle.cashier_spec.specs.Opening.{open_conditions, open_number, opened}
