@@ -149,7 +149,7 @@ module _ (t : Table) (at : At) (order : List ℕ) (shaped : Shaped t) (sound : S
   beside = omega (arith, w.here)
 
   first_three : length first-now ≡ 3
-  first_three = go (eqb s.hands.many 1)
+  first_three = go _
     where
       go : (b : Bool) → length (cond b (set s.first 2 (card_ahead t 0)) s.first) ≡ 3
       go true = length-set s.first 2 (card_ahead t 0) ∙ w.seat.shaped.three_first

@@ -75,109 +75,41 @@ fn play<W: Write>(
     Ok(next)
 }
 
-fn main(rt: HostRuntime) -> io::Result<()> {
-    let mut out = BufWriter::new(rt.alloc(), io::writer(&rt))?;
-    let cards = marked_order();
-    let order: &[u8] = &cards;
+// The calls of the session, from the table that the opening gave.
+fn calls<W: Write>(
+    out: &mut W,
+    opened: Table,
+    order: &[u8],
+    names: &mut [u32; LINES],
+    nets: &mut [i64; LINES],
+) -> io::Result<()> {
     let at = At {
         seat: 2,
         position: 0,
     };
+    let mut t = opened;
+    t = play(out, b"fill", t, Call::Fill(1000), order, names, nets)?;
+    t = play(out, b"buy", t, Call::Buy(at, 100), order, names, nets)?;
+    t = play(out, b"stake", t, Call::Stake(at, 20), order, names, nets)?;
+    t = play(out, b"deal", t, Call::Deal, order, names, nets)?;
+    t = play(out, b"insure", t, Call::Insure(at, 10), order, names, nets)?;
+    t = play(out, b"split", t, Call::Split(at), order, names, nets)?;
+    t = play(out, b"double", t, Call::Double(at), order, names, nets)?;
+    t = play(out, b"stand", t, Call::Stand(at), order, names, nets)?;
+    t = play(out, b"close", t, Call::Close, order, names, nets)?;
+    play(out, b"stand", t, Call::Stand(at), order, names, nets)?;
+    Ok(())
+}
+
+fn main(rt: HostRuntime) -> io::Result<()> {
+    let mut out = BufWriter::new(rt.alloc(), io::writer(&rt))?;
+    let cards = marked_order();
+    let order: &[u8] = &cards;
     let mut names = [0u32; LINES];
     let mut nets = [0i64; LINES];
     out.write_all(b"call no tray layout purses left\n")?;
     let opened = opening(house(), order);
-    let mut t = opened.table;
-    row(&mut out, b"open", opened.number, t)?;
-    t = play(
-        &mut out,
-        b"fill",
-        t,
-        Call::Fill(1000),
-        order,
-        &mut names,
-        &mut nets,
-    )?;
-    t = play(
-        &mut out,
-        b"buy",
-        t,
-        Call::Buy(at, 100),
-        order,
-        &mut names,
-        &mut nets,
-    )?;
-    t = play(
-        &mut out,
-        b"stake",
-        t,
-        Call::Stake(at, 20),
-        order,
-        &mut names,
-        &mut nets,
-    )?;
-    t = play(
-        &mut out,
-        b"deal",
-        t,
-        Call::Deal,
-        order,
-        &mut names,
-        &mut nets,
-    )?;
-    t = play(
-        &mut out,
-        b"insure",
-        t,
-        Call::Insure(at, 10),
-        order,
-        &mut names,
-        &mut nets,
-    )?;
-    t = play(
-        &mut out,
-        b"split",
-        t,
-        Call::Split(at),
-        order,
-        &mut names,
-        &mut nets,
-    )?;
-    t = play(
-        &mut out,
-        b"double",
-        t,
-        Call::Double(at),
-        order,
-        &mut names,
-        &mut nets,
-    )?;
-    t = play(
-        &mut out,
-        b"stand",
-        t,
-        Call::Stand(at),
-        order,
-        &mut names,
-        &mut nets,
-    )?;
-    t = play(
-        &mut out,
-        b"close",
-        t,
-        Call::Close,
-        order,
-        &mut names,
-        &mut nets,
-    )?;
-    play(
-        &mut out,
-        b"stand",
-        t,
-        Call::Stand(at),
-        order,
-        &mut names,
-        &mut nets,
-    )?;
+    row(&mut out, b"open", opened.number, opened.table)?;
+    calls(&mut out, opened.table, order, &mut names, &mut nets)?;
     out.flush()
 }
