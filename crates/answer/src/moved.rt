@@ -1,42 +1,40 @@
-// What a call of one seat gives back: the table goes into it and is not copied out of it, so that a step copies it less often.
+// What an accepted call of one seat gives back: the parts of the table that it has moved, so that a step copies the table once.
 ghost use Rattle.std.specs.Prelude.{◌≡◌};
-ghost use Rattle.answer.specs.Moved.{make_moved};
+ghost use Rattle.answer.specs.Moved.{make_moved, moved_table};
 
 use table::{Seat, Table};
 
-// The call's number; behind 0 the seat after it, the tray, the number of drawn cards, and the place of the hand that the call was about, which is called aloud.
+// The seat after the call, the tray, the number of drawn cards, and the place of the hand that the call was about, which is called aloud.
 #[derive(Clone, Copy)]
 pub struct Moved {
-    pub number: u8,
     pub tray: u64,
     pub seat: Seat,
     pub drawn: usize,
     pub hand: usize,
 }
 
-// A refused call moves nothing: beside its number nothing is read.
-pub fn not_moved(number: u8, seat: Seat) -> Moved
-    ensures { result ≡ make_moved number 0 seat 0 0 }
+// Nothing but the seat.
+pub fn seat_moved(t: &Table, seat: Seat) -> Moved
+    ensures { result ≡ make_moved t.now.tray seat t.now.shoe.drawn 0 }
 {
     Moved {
-        number,
-        tray: 0,
+        tray: t.tray,
         seat,
-        drawn: 0,
+        drawn: t.shoe.drawn,
         hand: 0,
     }
 }
 
-// An accepted call that changes nothing but its seat.
-pub fn seat_moved(t: Table, seat: Seat) -> Moved
-    ensures { result ≡ make_moved 0 t.tray seat t.shoe.drawn 0 }
+// The table with it: past the nine seats no seat is stored.
+pub fn moved_table(t: Table, seat: u8, m: Moved) -> Table
+    ensures { result ≡ moved_table t seat m }
 {
-    let shoe = t.shoe;
-    Moved {
-        number: 0,
-        tray: t.tray,
-        seat,
-        drawn: shoe.drawn,
-        hand: 0,
+    let mut next = t;
+    next.tray = m.tray;
+    next.shoe.drawn = m.drawn;
+    let i = usize::from(seat);
+    if i < 9 {
+        next.seats[i] = m.seat;
     }
+    next
 }

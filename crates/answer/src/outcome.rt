@@ -1,9 +1,45 @@
 // What a call gives back: its number, 0 where it is accepted, and the table after it.
+ghost use Rattle.std.specs.Prelude.{◌≡◌};
+ghost use Rattle.answer.specs.Moved.{moved_outcome};
+ghost use Rattle.answer.specs.Outcome.{outcome_in};
+
+use crate::moved::{Moved, moved_table};
+use call::refusal::Refusal;
 use table::Table;
 
 #[repr(C)]
 #[derive(Clone, Copy)]
 pub struct Outcome {
+    // A number and no Result: C reads it, and a refused call leaves the table beside it.
     pub number: u8,
     pub table: Table,
+}
+
+// Of a call that may change any part of the table t.
+pub fn outcome_in(t: &Table, r: Result<Table, Refusal>) -> Outcome
+    ensures { result ≡ outcome_in t.now r }
+{
+    match r {
+        Ok(table) => Outcome { number: 0, table },
+        Err(why) => Outcome {
+            number: why.number(),
+            table: *t,
+        },
+    }
+}
+
+// Of a call of one seat of it.
+pub fn moved_outcome(t: &Table, seat: u8, r: Result<Moved, Refusal>) -> Outcome
+    ensures { result ≡ moved_outcome t.now seat r }
+{
+    match r {
+        Ok(m) => Outcome {
+            number: 0,
+            table: moved_table(*t, seat, m),
+        },
+        Err(why) => Outcome {
+            number: why.number(),
+            table: *t,
+        },
+    }
 }

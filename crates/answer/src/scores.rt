@@ -8,6 +8,7 @@ use cards::score::HandScore;
 #[derive(Clone, Copy)]
 pub struct Scores {
     pub each: [HandScore; 9],
+    // An array with its number and no Vec: C reads it, and a step takes no memory.
     pub count: usize,
 }
 

@@ -4,8 +4,7 @@
 
 ghost use Rattle.std.specs.Prelude.{◌<◌, length, IfOk};
 
-use script::end_of;
-use session_file::number::file_number;
+use session_file::check::check_file;
 use session_file::reader::{byte_at, part};
 use std::io;
 use std::io::{BufWriter, Read, Write};
@@ -13,25 +12,29 @@ use std::io::{BufWriter, Read, Write};
 // As many bytes as are read.
 const ROOM: u64 = 65536;
 
-// One file, and the place behind it.
-fn one<W: Write>(out: &mut W, files: &[u8], at: usize) -> io::Result<usize>
-    requires { at < length files.now }
-    ensures { IfOk result (λ behind. at < behind) }
+// The file at the front, and what stands behind it.
+fn one<'a, W: Write>(out: &mut W, files: &'a [u8]) -> io::Result<&'a [u8]>
+    requires { 0 < length files.now }
+    ensures { IfOk result (λ behind. length behind.now < length files.now) }
 {
-    let end = end_of(files, at);
-    let name = part(files, at, end - at);
-    let many = (byte_at(files, end + 1) as usize) + 256 * (byte_at(files, end + 2) as usize);
-    let number = file_number(part(files, end + 3, many));
+    let end = files.iter().position(|byte| *byte == b'\n');
+    let (name, rest) = files.split_at(end.unwrap_or(files.len()));
+    let many = usize::from(u16::from_le_bytes([byte_at(rest, 1), byte_at(rest, 2)]));
+    let number = match check_file(part(rest, 3, many)) {
+        Ok(()) => 0,
+        Err(why) => why.number(),
+    };
     write!(out, "{number} ")?;
     out.write_all(name)?;
     out.write_all(b"\n")?;
-    Ok(end + 3 + many)
+    Ok(part(rest, 3 + many, rest.len()))
 }
 
 fn each<W: Write>(out: &mut W, files: &[u8]) -> io::Result<()> {
-    let mut at: usize = 0;
-    while at < files.len() {
-        at = one(out, files, at)?;
+    let mut left = files;
+    // Each turn takes a line of a length of its own.
+    while !left.is_empty() {
+        left = one(out, left)?;
     }
     Ok(())
 }

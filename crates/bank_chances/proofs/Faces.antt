@@ -1,15 +1,17 @@
 -- The cards of the first faces, one face more.
 use mathlib.Core.Path.{◌≡◌, refl, sym, ◌∙◌, ap}
-use mathlib.Core.List.{List}
+use mathlib.Core.List.{List, [], ◌∷◌}
+use Rattle.std.specs.List.{sum}
+use Rattle.lists.proofs.Chains.{sum_of-sum_by}
 use Prim.Native.Nat.{ℕ, zero, suc, ◌+◌, ◌*◌, ◌≤◌, ◌<◌}
 use native.Mathlib.Nat.{mul-one, mul-zero}
 use native.Mathlib.Decide.{ℕ_discrete}
 use native.Mathlib.Omega.{arith}
-use lib.ListN.{length, take, get_or, replicate, set}
+use lib.ListN.{length, take, get_or, replicate, set, length-append, length-replicate}
 use lib.Seq.{get_or-set_same, get_or-set_other}
 use Rattle.lists.specs.Sum.{sum_of, is_it}
 use Rattle.lists.proofs.Numbered.{numbered_next}
-use Rattle.lists.proofs.Sums.{sum-append, sum_ones}
+use Rattle.lists.proofs.Sums.{sum-append}
 use Rattle.bank_chances.specs.CardsLeft.{cards_from, cards_left}
 use Rattle.bank_chances.specs.Aids.Ways.{stand_in, Standing}
 use Rattle.bank_chances.proofs.Groups.{sum-replicate, is_it_lem, is_not}
@@ -20,9 +22,6 @@ faces-next w left i h =
     ap (sum_of w) (numbered_next cards_from (λ face count. replicate count face) (λ i. refl) (λ i x xs. refl) i left 0 h)
     ∙ sum-append w (cards_left (take i left)) (replicate (get_or left i 0) i)
     ∙ ap (λ (n : ℕ). sum_of w (cards_left (take i left)) + n) (sum-replicate w (get_or left i 0) i)
-
-pub many_next : (left : List ℕ) (i : ℕ) → i < length left → length (cards_left (take (i + 1) left)) ≡ length (cards_left (take i left)) + get_or left i 0
-many_next left i h = omega (arith, faces-next (λ card. 1) left i h, sum_ones (cards_left (take (i + 1) left)), sum_ones (cards_left (take i left)), mul-one (get_or left i 0))
 
 -- before the first face
 pub none-at : (n p : ℕ) → get_or {A = ℕ} (replicate n 0) p 0 ≡ 0
@@ -51,3 +50,12 @@ module _ (left counts : List ℕ) (i at : ℕ) (ten : length counts ≡ 10) (sta
       go : Dec (p ≡ at) → get_or added p 0 ≤ 255 * (i + 1)
       go (yes same) = rw (same, get_or-set_same counts at (get_or counts at 0 + get_or left i 0) 0 (omega arith)) (omega (arith, few at))
       go (no other) = rw (get_or-set_other counts at p (get_or counts at 0 + get_or left i 0) 0 other) (omega (arith, few p))
+
+-- how many cards: the counts added up
+length-cards_from : (face : ℕ) (left : List ℕ) → length (cards_from face left) ≡ sum_of (λ count. count) left
+unfolding cards_from sum_of
+length-cards_from face [] = refl
+length-cards_from face (count ∷ counts) = omega (arith, length-append (replicate count face) (cards_from (suc face) counts), length-replicate count face, length-cards_from (suc face) counts)
+
+pub length-cards_left : (left : List ℕ) → length (cards_left left) ≡ sum left
+length-cards_left left = length-cards_from 0 left ∙ sum_of-sum_by (λ count. count) left

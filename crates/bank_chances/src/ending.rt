@@ -7,18 +7,18 @@ use cards::hand::Hand;
 use payment::bank::{must_draw, score_of};
 
 // 0 natural, 1 to 5 a total of 17 to 21 otherwise, 6 bust, 7 unfinished.
+#[tactic(auto, unfolding(crate::specs::Ending::ending_of, payment::specs::Bank::must_draw))]
 pub(crate) fn ending(bank: Hand) -> u8
     ensures { result ≡ ending_of (cards_of bank) }
 {
-    if must_draw(bank) {
-        return 7;
-    }
     let score = score_of(bank);
-    if score.natural {
-        return 0;
+    if must_draw(bank) {
+        7
+    } else if score.natural {
+        0
+    } else if 21 < score.total {
+        6
+    } else {
+        (score.total - 16) as u8
     }
-    if 21 < score.total {
-        return 6;
-    }
-    (score.total - 16) as u8
 }

@@ -10,39 +10,29 @@ use cards::card::rank;
 pub(crate) fn some_above(left: [u8; 52]) -> bool
     ensures { result ≡ any_of (λ count. ltb 8 count) left }
 {
-    for face in 0usize..52 {
-        if 8 < left[face] {
-            return true;
-        }
-    }
-    false
+    left.iter().any(|count| 8 < *count)
 }
 
 pub(crate) fn many_left(left: [u8; 52]) -> u64
     ensures { result ≡ length (cards_left left) }
 {
-    let mut n: u64 = 0;
-    for face in 0usize..52 {
-        n += left[face] as u64;
-    }
-    n
+    left.iter().map(|count| *count as u64).sum()
 }
 
 // The card that stands for every card of its points: jack, queen and king count as the ten.
 fn stand_in(card: u8) -> u8
     ensures { result ≡ stand_in card }
 {
-    let r = rank(card);
-    if r < 9 { r } else { 9 }
+    rank(card).min(9)
 }
 
 pub(crate) fn by_points(left: [u8; 52]) -> [u64; 10]
     ensures { Standing (cards_left left) result }
 {
     let mut counts = [0u64; 10];
-    for face in 0usize..52 {
+    for (face, count) in left.iter().enumerate() {
         let at = stand_in(face as u8) as usize;
-        counts[at] = counts[at] + left[face] as u64;
+        counts[at] += *count as u64;
     }
     counts
 }

@@ -1,9 +1,9 @@
 // The count itself, a recursion over the next card's points with the depth falling; the counts are summed on return.
-ghost use Rattle.std.specs.Prelude.{◌≡◌, ◌≤◌, ◌<◌};
+ghost use Rattle.std.specs.Prelude.{◌≡◌, ◌≤◌, ◌<◌, get_or};
 ghost use Rattle.cards.specs.Hand.{cards_of};
 ghost use Rattle.bank_chances.specs.Draws.{falling as falling_of};
 ghost use Rattle.bank_chances.specs.Ending.{ending_of};
-ghost use Rattle.bank_chances.specs.Aids.Ways.{ways_of, only_ending, plus_times, Within, Room};
+ghost use Rattle.bank_chances.specs.Aids.Ways.{without, ways_of, only_ending, plus_times, Within, Room};
 
 use crate::ending::ending;
 use cards::hand::{Hand, with_card};
@@ -67,6 +67,16 @@ fn ended(bank: Hand, n: u64, depth: u8) -> Counts
     only(ending(bank), falling(n, depth))
 }
 
+// What is left behind a card of these points. It asks for one.
+fn without(left: &[u64; 10], p: usize) -> [u64; 10]
+    requires { (p < 10) × (0 < get_or left.now p 0) }
+    ensures { result ≡ without left.now p }
+{
+    let mut rest = *left;
+    rest[p] -= 1;
+    rest
+}
+
 // The draws of so many of the n cards that are left, behind the bank's cards, by the points of the next card.
 pub(crate) fn ways(bank: Hand, left: [u64; 10], n: u64, depth: u8) -> Counts
     requires { Within left n depth }
@@ -79,13 +89,11 @@ pub(crate) fn ways(bank: Hand, left: [u64; 10], n: u64, depth: u8) -> Counts
         return ended(bank, n, depth);
     }
     let mut counts = Counts { each: [0u64; 8] };
-    for p in 0usize..10 {
-        let many = left[p];
-        if 0 < many {
-            let mut rest = left;
-            rest[p] = many - 1;
+    for (p, many) in left.iter().enumerate() {
+        if 0 < *many {
+            let rest = without(&left, p);
             let behind = ways(with_card(bank, p as u8), rest, n - 1, depth - 1);
-            counts = plus_times(counts, many, behind);
+            counts = plus_times(counts, *many, behind);
         }
     }
     counts

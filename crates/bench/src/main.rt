@@ -3,24 +3,24 @@
 
 use broken::broken;
 use call::pay_line::LINES;
-use cashier::opening::opening;
+use cashier::opening::{empty_table, opening};
 use engine::step;
 use std::io;
 use table::Table;
 use workload::calls_asked;
 use workload::checksum::of_step;
 use workload::house::{cards_of, options_of, order_of};
-use workload::plan::{FILL, LOAD, OPEN, Plan, after, chosen, start};
+use workload::plan::{Plan, Stage, after, chosen, start};
 
 // A session's first table.
 fn opened(p: Plan) -> Table {
     let cards = order_of(p.decks, p.seed);
     let n = cards_of(p.decks);
-    let o = opening(options_of(p.decks), &cards[..n]);
-    o.table
+    opening(options_of(p.decks), &cards[..n]).unwrap_or(empty_table())
 }
 
 // A run that ends on a broken table has no checksum.
+// `damaged` is a fact of the run and no choice of the caller's.
 fn whole(sum: u64, damaged: bool) -> u64 {
     if damaged { 0 } else { sum }
 }
@@ -33,12 +33,13 @@ fn played(calls: u64) -> u64 {
     let mut names = [0u32; LINES];
     let mut nets = [0i64; LINES];
     let mut sum: u64 = 0;
-    for n in 0..calls {
-        if p.stage == OPEN {
+    // So many calls: nothing is gone through.
+    for _ in 0..calls {
+        if p.stage == Stage::Open {
             t = opened(p);
-            p.stage = FILL;
+            p.stage = Stage::Fill;
         }
-        if p.stage == LOAD {
+        if p.stage == Stage::Load {
             cards = order_of(p.decks, p.seed);
         }
         let many = cards_of(p.decks);

@@ -14,10 +14,6 @@ use std::io;
 use workload::calls_asked;
 use workload::checksum::of_table;
 
-fn room() -> [u8; ROOM] {
-    [0u8; ROOM]
-}
-
 // The file is the first of these bytes.
 fn passes(bytes: &[u8; ROOM], end: usize, begun: Replay) -> Replay
     ensures { result.left ≤ begun.left }
@@ -27,7 +23,7 @@ fn passes(bytes: &[u8; ROOM], end: usize, begun: Replay) -> Replay
 
 fn main(rt: HostRuntime) -> io::Result<()> {
     let calls = calls_asked(&rt);
-    let mut bytes = room();
+    let mut bytes = [0; ROOM];
     let s = written_session(&mut bytes);
     let table = s.table;
     let begun = Replay { table, left: calls };

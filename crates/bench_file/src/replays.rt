@@ -4,7 +4,7 @@ ghost use Rattle.books.specs.Laws.{Whole};
 
 use call::pay_line::LINES;
 use replaying::{open_file, play_call};
-use session_file::reader::{call_at, call_place};
+use session_file::reader::Reader;
 use table::Table;
 
 // The last table, and how many calls are still to be replayed.
@@ -18,35 +18,26 @@ pub(crate) struct Replay {
 fn each(file: &[u8], first: Table, calls: u64) -> Replay
     requires { Whole first }
 {
-    let mut names = [0u32; LINES];
-    let mut nets = [0i64; LINES];
-    let mut t = first;
+    let mut names = [0; LINES];
+    let mut nets = [0; LINES];
+    let mut table = first;
     let mut left = calls;
-    let mut at = call_place(file, 512);
-    while at < file.len() {
+    for handed in Reader::of_checked(file) {
         if left == 0 {
-            return Replay { table: t, left };
+            return Replay { table, left };
         }
-        let h = call_at(file, at);
-        if !h.found {
-            return Replay { table: t, left };
-        }
-        let reply = play_call(t, file, h, &mut names, &mut nets);
-        t = reply.table;
+        table = play_call(table, file, handed, &mut names, &mut nets).table;
         left -= 1;
-        at = h.behind;
     }
-    Replay { table: t, left }
+    Replay { table, left }
 }
 
 // One pass over the file; of a refused one no call is replayed.
-fn pass(file: &[u8], calls: u64) -> Replay {
-    let first = open_file(file);
-    let table = first.table;
-    if first.number != 0 {
-        return Replay { table, left: calls };
+fn pass(file: &[u8], begun: Replay) -> Replay {
+    match open_file(file) {
+        Ok(table) => each(file, table, begun.left),
+        Err(_) => begun,
     }
-    each(file, table, calls)
 }
 
 // Pass after pass, until as many calls are replayed as were left, or a pass replays none.
@@ -54,8 +45,9 @@ pub(crate) fn replayed(file: &[u8], begun: Replay) -> Replay
     ensures { result.left ≤ begun.left }
 {
     let mut r = begun;
+    // A pass may replay fewer calls than are left.
     while 0 < r.left {
-        let next = pass(file, r.left);
+        let next = pass(file, r);
         if r.left <= next.left {
             return r;
         }

@@ -1,11 +1,13 @@
 // One session of the workload, played and written as its file.
 use call::pay_line::LINES;
-use cashier::opening::opening;
+use cashier::opening::{empty_table, opening};
 use engine::step;
-use file_writer::writer::{Writer, Written, add, begin, end};
+use file_block::block::Block;
+use file_writer::writer::Writer;
+use std::slice;
 use table::Table;
 use workload::house::{cards_of, options_of, order_of};
-use workload::plan::{OPEN, Plan, after, chosen, start};
+use workload::plan::{Plan, Stage, after, chosen, start};
 
 // The bytes that the file may have, 128 blocks, of which the session takes 43.
 pub(crate) const ROOM: usize = 65536;
@@ -22,27 +24,14 @@ pub(crate) struct Session {
     pub end: usize,
 }
 
-// A block laid into the file at that place: the place behind it, or the same where there is no room.
-fn laid(file: &mut [u8; ROOM], at: usize, block: [u8; 512]) -> usize {
-    if ROOM - 512 < at {
-        return at;
-    }
-    for i in 0usize..512 {
-        file[at + i] = block[i];
-    }
-    at + 512
-}
-
-// The place behind the blocks that are complete now.
-fn with_blocks(file: &mut [u8; ROOM], at: usize, w: Written) -> usize {
-    let first = w.first;
-    let second = w.second;
+// These blocks laid into the file from that place on, as far as there is room: the place behind them.
+fn laid(file: &mut [u8; ROOM], at: usize, blocks: &[Block]) -> usize {
     let mut behind = at;
-    if 0 < w.blocks {
-        behind = laid(file, behind, first);
-    }
-    if 1 < w.blocks {
-        behind = laid(file, behind, second);
+    for block in blocks {
+        if behind <= ROOM - 512 {
+            file[behind..behind + 512].copy_from_slice(block);
+            behind += 512;
+        }
     }
     behind
 }
@@ -50,25 +39,28 @@ fn with_blocks(file: &mut [u8; ROOM], at: usize, w: Written) -> usize {
 // The session opens with the order of its seed.
 fn begun(file: &mut [u8; ROOM]) -> Session {
     let plan = start();
+    let options = options_of(plan.decks);
     let cards = order_of(plan.decks, plan.seed);
-    let many = cards_of(plan.decks);
-    let opened = opening(options_of(plan.decks), &cards[..many]);
-    let written = begin(options_of(plan.decks), &cards[..many]);
-    let table = opened.table;
-    let writer = written.writer;
-    let end = with_blocks(file, 0, written);
-    Session {
+    let order = &cards[..cards_of(plan.decks)];
+    let table = opening(options, order).unwrap_or(empty_table());
+    let mut session = Session {
         plan,
         table,
-        writer,
-        end,
+        writer: Writer::new(options),
+        end: 0,
+    };
+    if let Ok(begun) = Writer::begin(options, order) {
+        let block = begun.1;
+        session.writer = begun.0;
+        session.end = laid(file, 0, slice::from_ref(&block));
     }
+    session
 }
 
 // Whether the session has ended, or the room for two blocks and the last one.
 fn is_over(s: Session) -> bool {
     let plan = s.plan;
-    (plan.stage == OPEN) | (ROOM - 1536 < s.end)
+    (plan.stage == Stage::Open) | (ROOM - 1536 < s.end)
 }
 
 // One call, lent an order that only a load reads: where it is accepted it is written.
@@ -88,33 +80,31 @@ fn told(
     let mut next = s;
     next.table = table;
     next.plan = after(plan, answer.number, table);
+    // An answer's number, as C reads it: 0 is accepted.
     if answer.number != 0 {
         return next;
     }
-    let written = add(s.writer, call, &cards[..many]);
-    let writer = written.writer;
-    next.writer = writer;
-    next.end = with_blocks(file, s.end, written);
+    if let Ok(blocks) = next.writer.add(call, &cards[..many]) {
+        next.end = laid(file, s.end, blocks.as_slice());
+    }
     next
 }
 
 // The block that is still open.
 fn finished(s: Session, file: &mut [u8; ROOM]) -> Session {
-    let last = end(s.writer);
-    let block = last.block;
     let mut next = s;
-    if last.blocks != 0 {
-        next.end = laid(file, s.end, block);
+    if let Some(block) = s.writer.end() {
+        next.end = laid(file, s.end, slice::from_ref(&block));
     }
     next
 }
 
-// The whole session. Once it is over no call changes it.
+// The whole session. Once it is over no call changes it; the count only bounds the loop.
 pub(crate) fn written_session(file: &mut [u8; ROOM]) -> Session {
-    let mut names = [0u32; LINES];
-    let mut nets = [0i64; LINES];
+    let mut names = [0; LINES];
+    let mut nets = [0; LINES];
     let mut s = begun(file);
-    for k in 0usize..MOST {
+    for _ in 0..MOST {
         if !is_over(s) {
             s = told(s, file, &mut names, &mut nets);
         }

@@ -9,6 +9,7 @@ ghost use Rattle.table.specs.Broken.{sound_origin, sound_double, sound_surrender
 
 use cards::card::is_ace;
 use cards::hand::Hand;
+use cards::total::{low_sum, total};
 use options::Options;
 use payment::prize::prize;
 use payment::wager::wager;
@@ -19,90 +20,76 @@ use rules::seat_hand::{
 };
 
 // Of twelve cards or more, the low sum is above their number.
+#[tactic(auto, unfolding(cards::specs::Length::could_be_played))]
 fn could_be_played(h: Hand) -> bool
     ensures { result ≡ could_be_played (cards_of h) }
 {
-    let n = cards::hand::held(h);
-    n < 12 || (n as u8) < cards::total::low_sum(h)
+    let n = h.held_cards().len();
+    n < 12 || n < (low_sum(h) as usize)
 }
 
 // A seat's only hand was dealt, any other comes from a split, of aces where its first card is one. It asks that there is a first card.
+#[tactic(auto, unfolding(table::specs::Broken::sound_origin))]
 fn sound_origin(many: u8, h: SeatHand) -> bool
     requires { 0 < h.hand.count }
     ensures { result ≡ sound_origin many (played_of h) }
 {
-    let hand = h.hand;
-    let first = hand.cards[0];
-    if many == 1 {
-        return h.origin == DEALT;
-    }
-    if is_ace(first) {
-        return h.origin == SPLIT_ACES;
-    }
-    h.origin == SPLIT
+    let origin = if many == 1 {
+        DEALT
+    } else if is_ace(h.hand.cards[0]) {
+        SPLIT_ACES
+    } else {
+        SPLIT
+    };
+    h.origin == origin
 }
 
 // A doubled hand has three cards, is not from split aces, and its first two permitted the double.
+#[tactic(auto, unfolding(table::specs::Broken::sound_double))]
 fn sound_double(o: Options, h: SeatHand) -> bool
     ensures { result ≡ sound_double o (played_of h) }
 {
-    let hand = h.hand;
-    if hand.count != 3 {
+    if h.hand.count != 3 || h.origin == SPLIT_ACES {
         return false;
     }
-    if h.origin == SPLIT_ACES {
-        return false;
-    }
-    let cards = hand.cards;
-    let two = Hand { cards, count: 2 };
-    let sum = cards::total::total(two);
+    let two = Hand { count: 2, ..h.hand };
+    let sum = total(two);
     sum < 21 && (o.double == 1 || sum == 11)
 }
 
 // A surrendered hand is its seat's only one, of two cards, against no ace.
+#[tactic(auto, unfolding(rules::specs::SeatHand::has_two_cards, table::specs::Broken::sound_surrender))]
 fn sound_surrender(up: u8, many: u8, h: SeatHand) -> bool
     ensures { result ≡ sound_surrender up many (played_of h) }
 {
-    let hand = h.hand;
-    if many != 1 {
-        return false;
-    }
-    if hand.count != 2 {
-        return false;
-    }
-    !is_ace(up)
+    many == 1 && (h.hand.held_cards().len() == 2 && !is_ace(up))
 }
 
 // Even and five only where they are open; what is not ended by a decision, or by stand, fits every hand.
+#[tactic(auto, unfolding(table::specs::Broken::sound_ending))]
 fn sound_ending(o: Options, up: u8, many: u8, h: SeatHand) -> bool
     ensures { result ≡ sound_ending o up many (played_of h) }
 {
-    let ended = h.ended;
-    if ended == BY_DOUBLE {
-        return sound_double(o, h);
+    match h.ended {
+        BY_DOUBLE => sound_double(o, h),
+        BY_SURRENDER => sound_surrender(up, many, h),
+        BY_EVEN => even_open(up, h),
+        BY_FIVE => five_open(o, up, h),
+        ended => ended <= BY_STAND,
     }
-    if ended == BY_SURRENDER {
-        return sound_surrender(up, many, h);
-    }
-    if ended == BY_EVEN {
-        return even_open(up, h);
-    }
-    if ended == BY_FIVE {
-        return five_open(o, up, h);
-    }
-    ended <= BY_STAND
 }
 
+#[tactic(auto, unfolding(table::specs::Broken::sound_hand))]
 fn sound_hand(o: Options, up: u8, many: u8, h: SeatHand) -> bool
     ensures { result ≡ sound_hand o up many h }
 {
-    let hand = h.hand;
-    2 <= hand.count
-        && (hand.count <= 20
-            && (could_be_played(hand) && (sound_origin(many, h) && sound_ending(o, up, many, h))))
+    2 <= h.hand.count
+        && (h.hand.count <= 20
+            && (could_be_played(h.hand) && (sound_origin(many, h) && sound_ending(o, up, many, h))))
 }
 
-// What a look at a seat's hands gives: whether all in use are sound, and their wagers and prizes.
+// What a look at a seat's hands gives: whether all in use are sound, and their wagers and prizes. A flag beside the sums and no Option: a guest's sums are made of these
+// before it is asked whether the hands are sound.
 #[derive(Clone, Copy)]
 pub(crate) struct Looked {
     pub(crate) sound: bool,
@@ -114,15 +101,13 @@ pub(crate) struct Looked {
 pub(crate) fn looked_at(o: Options, up: u8, stake: u32, s: SeatHands) -> Looked
     ensures { LookedAt o up stake s result }
 {
-    let n = rules::seat_hand::used(s);
     let mut sound = true;
-    let mut wagers: u64 = 0;
-    let mut prizes: u64 = 0;
-    for i in 0usize..n {
-        let h = s.places[i];
-        sound = sound & sound_hand(o, up, s.many, h);
-        wagers += wager(stake, h);
-        prizes += prize(o, stake, h);
+    let mut wagers = 0;
+    let mut prizes = 0;
+    for h in s.in_use() {
+        sound = sound & sound_hand(o, up, s.many, *h);
+        wagers += wager(stake, *h);
+        prizes += prize(o, stake, *h);
     }
     Looked {
         sound,

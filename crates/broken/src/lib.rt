@@ -14,7 +14,7 @@ ghost use Rattle.card_count.specs.Aids.Left.{OfValid};
 ghost use Rattle.broken.specs.Aids.OfPass.{OfPass};
 
 use crate::hand::looked_at;
-use crate::seat::{lone, surveyed_crowd, surveyed_lone};
+use crate::seat::{Round, surveyed_crowd, surveyed_lone};
 use card_count::conserved::{order_sound, out_is_drawn};
 use card_count::out_cards::count_seat;
 use money::most_money::past_most_money;
@@ -22,60 +22,47 @@ use money::sums::{Sums, no_sums, plus};
 use options::device::bank_at_deal;
 use options::in_range;
 use state::round::{is_dealt, up};
+use state::seat::nobody_beside;
 use table::{Shoe, Table};
 
-// What the pass over the seats gives: whether all are sound, their sums, and the number of cards in their hands.
+// What the seats hold: their sums, and the number of cards in their hands.
 #[derive(Clone, Copy)]
-struct Pass {
-    sound: bool,
+struct Held {
     sums: Sums,
     cards: usize,
 }
 
-// The one pass over the nine seats: it tests them, adds up their money and counts their hands' cards. They are taken out of the table first, so that the loop
-// keeps a copy of the seats alone. A seat with bets beside the seated guest is read a second time: so the first, which most seats need alone, is no copy. The
-// hands are looked at here, at one place, so that the compiler puts the look into the loop.
-fn surveyed(of: &mut [u16; 256], t: Table) -> Pass
+// The one pass over the nine seats: it tests them, adds up their money and counts their hands' cards; nothing where one is not sound. The seats are taken out of the table first: lent where they
+// lie, the whole table would be copied. The hands are looked at here, at one place, so that the compiler puts the look into the loop.
+fn surveyed(of: &mut [u16; 256], t: Table) -> Option<Held>
     requires { Room of.old 720 }
     ensures { OfPass t of.old of.new result }
 {
-    let o = t.options;
-    let dealt = is_dealt(t);
-    let card = up(t);
+    let r = Round {
+        options: t.options,
+        dealt: is_dealt(t),
+        up: up(t),
+    };
     let mut sums = no_sums();
-    let mut cards: usize = 0;
+    let mut cards = 0;
     let seats = t.seats;
-    for i in 0usize..9 {
-        let s = seats[i];
-        let hands = s.hands;
-        if hands.many != 0 {
-            cards += count_seat(of, hands);
+    for (i, s) in seats.iter().enumerate() {
+        if s.hands.many != 0 {
+            cards += count_seat(of, s.hands);
         }
-        let others = s.others;
-        let money = s.money;
-        let look = looked_at(o, card, money.stake, hands);
-        let one = if lone(others) {
-            surveyed_lone(o, dealt, card, i, s, look)
+        let look = looked_at(r.options, r.up, s.money.stake, s.hands);
+        let one = if nobody_beside(s.others) {
+            surveyed_lone(r, i, *s, look)
         } else {
-            surveyed_crowd(o, dealt, card, i, seats[i], look)
+            surveyed_crowd(r, i, *s, look)
         };
-        if !one.sound {
-            return Pass {
-                sound: false,
-                sums,
-                cards,
-            };
-        }
-        sums = plus(sums, one.sums);
+        sums = plus(sums, one?);
     }
-    Pass {
-        sound: true,
-        sums,
-        cards,
-    }
+    Some(Held { sums, cards })
 }
 
 // Play has begun or not, and it has where a card is drawn.
+#[tactic(auto, unfolding(table::specs::Broken::sound_begun))]
 fn begun_sound(sh: Shoe) -> bool
     ensures { result ≡ sound_begun sh }
 {
@@ -89,8 +76,7 @@ fn bank_sound(t: Table, m: Sums) -> bool
     requires seats { all_below (seat_sound t) 9 ≡ true }
     ensures { result ≡ sound_bank t }
 {
-    let bank = t.bank;
-    bank.count == 0 || (bank.count == bank_at_deal(t.options) && 0 < m.stakes)
+    t.bank.count == 0 || (t.bank.count == bank_at_deal(t.options) && 0 < m.stakes)
 }
 
 // All money is within the limit, and in a dealt round tray and prizes cover every stake, compared so that no sum wraps.
@@ -98,13 +84,8 @@ fn money_sound(t: Table, m: Sums) -> bool
     requires { m ≡ table_sums t }
     ensures { result ≡ sound_money t }
 {
-    if past_most_money(t.tray, m, 0) {
-        return false;
-    }
-    if !is_dealt(t) {
-        return true;
-    }
-    m.cover <= t.tray || m.cover - t.tray <= m.prizes
+    !past_most_money(t.tray, m, 0)
+        && (!is_dealt(t) || (m.cover <= t.tray || m.cover - t.tray <= m.prizes))
 }
 
 // Of a sound order, whose left cards and discards are counted: the seats, the bank, the money, and whether what is out is what was drawn.
@@ -112,19 +93,20 @@ fn rest_sound(of: &mut [u16; 256], t: Table) -> bool
     requires { OfValid of.old t }
     ensures { result ≡ (sound_faces t && all_below (seat_sound t) 9 && sound_bank t && sound_money t) }
 {
-    let v = surveyed(of, t);
-    let m = v.sums;
-    v.sound && (bank_sound(t, m) && (money_sound(t, m) && out_is_drawn(of, t, v.cards)))
+    match surveyed(of, t) {
+        Some(held) => {
+            bank_sound(t, held.sums)
+                && (money_sound(t, held.sums) && out_is_drawn(of, t, held.cards))
+        }
+        None => false,
+    }
 }
 
+#[tactic(auto, unfolding(card_count::specs::Aids::Counters::no_counts, table::specs::Broken::sound))]
 fn sound(t: Table) -> bool
     ensures { result ≡ is_sound t }
 {
-    let o = t.options;
-    if !in_range(o) {
-        return false;
-    }
-    if !begun_sound(t.shoe) {
+    if !in_range(t.options) || !begun_sound(t.shoe) {
         return false;
     }
     let mut of = [0u16; 256];

@@ -6,9 +6,14 @@ use Prim.Native.Nat.{ℕ, ◌<◌}
 use native.Mathlib.Omega.{arith}
 use lib.Dec.{ltb, eqb}
 use borrow.Author.Tests.{ltb-true, eq-eqb}
+use Rattle.std.specs.Prelude.{Result, Err}
+use Rattle.std.specs.Result.{IsErrAnd}
+use Rattle.std.proofs.lemmas.Result.{err_from_is_err_and}
 use Rattle.lists.specs.Tests.{any_of, all_of}
 use Rattle.lists.proofs.Tests.{or_eq_false}
-use Rattle.call.specs.Refusal.{Condition, first, holds, FirstAt}
+use Rattle.call.specs.declared.refusal.Refusal.{Refusal}
+use Rattle.call.specs.declared.refusal.Refusal.TheVariants.{Broken, WrongOptions, WrongOrder, RoundDealt, NoRound, NothingStaked, HandWaits, NoSeat, LaidAlready, NoStake, NotInTurn, TooLate, Barred, WrongAmount, ShortPurse, ShortTray, ShortShoe, NoCards, NoPair, HandsUsedUp, NoSideKind, NoPosition, NotDeciding, FileLength, FileCheck, FileContent, WrongDepth, Taken, NotHere}
+use Rattle.call.specs.Refusal.{Condition, number_of, first, holds, FirstAt}
 
 says : (before : List Condition) (n : ℕ) (after : List Condition) → any_of holds before ≡ false → first (before ++ (n, true) ∷ after) ≡ n
 unfolding first any_of
@@ -85,3 +90,39 @@ first-behind [] rest numbers e = refl
 first-behind ((m, true) ∷ cs) rest numbers e =
     absurd (omega (arith, ltb-true 0 m ((and-eq-true_iff (ltb 0 m) (all_of (λ c. ltb 0 c.0) cs)).0 numbers).0))
 first-behind ((m, false) ∷ cs) rest numbers e = first-behind cs rest ((and-eq-true_iff (ltb 0 m) (all_of (λ c. ltb 0 c.0) cs)).0 numbers).1 e
+
+-- a `?` gives back the refusal that it met
+pub residual : {T : Type 0} (r : Result T Refusal) {why : Refusal} → IsErrAnd r (λ e. e ≡ why) → r ≡ Err why
+residual r met = let (e, is, same) = err_from_is_err_and r met in is ∙ ap (λ (w : Refusal). Err w) same
+
+-- no refusal has the number of an accepted call
+pub refusal_some : (why : Refusal) → number_of why ≡ 0 → ⊥
+refusal_some Broken e = absurd (omega arith)
+refusal_some WrongOptions e = absurd (omega arith)
+refusal_some WrongOrder e = absurd (omega arith)
+refusal_some RoundDealt e = absurd (omega arith)
+refusal_some NoRound e = absurd (omega arith)
+refusal_some NothingStaked e = absurd (omega arith)
+refusal_some HandWaits e = absurd (omega arith)
+refusal_some NoSeat e = absurd (omega arith)
+refusal_some LaidAlready e = absurd (omega arith)
+refusal_some NoStake e = absurd (omega arith)
+refusal_some NotInTurn e = absurd (omega arith)
+refusal_some TooLate e = absurd (omega arith)
+refusal_some Barred e = absurd (omega arith)
+refusal_some WrongAmount e = absurd (omega arith)
+refusal_some ShortPurse e = absurd (omega arith)
+refusal_some ShortTray e = absurd (omega arith)
+refusal_some ShortShoe e = absurd (omega arith)
+refusal_some NoCards e = absurd (omega arith)
+refusal_some NoPair e = absurd (omega arith)
+refusal_some HandsUsedUp e = absurd (omega arith)
+refusal_some NoSideKind e = absurd (omega arith)
+refusal_some NoPosition e = absurd (omega arith)
+refusal_some NotDeciding e = absurd (omega arith)
+refusal_some FileLength e = absurd (omega arith)
+refusal_some FileCheck e = absurd (omega arith)
+refusal_some FileContent e = absurd (omega arith)
+refusal_some WrongDepth e = absurd (omega arith)
+refusal_some Taken e = absurd (omega arith)
+refusal_some NotHere e = absurd (omega arith)

@@ -11,6 +11,7 @@ pub const HAND: u8 = 0;
 
 pub const INSURANCE: u8 = 1;
 
+// A number with four bytes in it, since C reads the names of the lines as such.
 pub fn line_name(seat: u8, position: u8, place: u8, kind: u8) -> u32
     ensures { result ≡ line_name seat position place kind }
 {

@@ -11,56 +11,45 @@ ghost use Rattle.card_count.specs.Aids.Left.{OrderFits, Left, OfValid, WithHands
 
 use crate::counters::{count, each_face};
 use crate::out_cards::{count_hand, count_seats};
-use table::Table;
+use table::{Shoe, Table};
 
-// Whether the first discards are the first cards of the order. The loop has no branch, so that the compiler compares several at a time.
-fn discards_first<'a>(order: &'a [u8; 416], discards: &'a [u8; 416], n: usize) -> bool
-    requires { n ≤ 416 }
-    ensures { result ≡ all_below (λ k. eqb (get_or discards.now k 0) (get_or order.now k 0)) n }
+// Whether the discards are the first cards of the order.
+fn discards_first(sh: &Shoe) -> bool
+    requires { sh.now.discarded ≤ 416 }
+    ensures { result ≡ all_below (λ k. eqb (get_or sh.now.discards k 0) (get_or sh.now.order k 0)) sh.now.discarded }
 {
-    let mut all = true;
-    for k in 0usize..n {
-        all = all & (discards[k] == order[k]);
-    }
-    all
+    sh.discards[..sh.discarded] == sh.order[..sh.discarded]
 }
 
 // The cards that are left and the first ones, as many as there are discards, counted.
-fn count_left(of: &mut [u16; 256], decks: u8, order: &[u8], drawn: usize, discarded: usize)
+fn count_left(of: &mut [u16; 256], decks: u8, sh: &Shoe)
     requires none { of.old ≡ no_counts }
-    requires fits { OrderFits decks order.now drawn discarded }
-    ensures { Left of.new decks order.now drawn discarded }
+    requires fits { OrderFits decks sh.now.order sh.now.drawn sh.now.discarded }
+    ensures { Left of.new decks sh.now.order sh.now.drawn sh.now.discarded }
 {
     let all = 52 * (decks as usize);
-    count(of, &order[drawn..all]);
-    count(of, &order[..discarded]);
+    count(of, &sh.order[sh.drawn..all]);
+    count(of, &sh.order[..sh.discarded]);
 }
 
 // Whether the order is valid: its other drawn cards are counted beside those, in a copy of the counters.
-fn order_valid<'a>(
-    left: &'a [u16; 256],
-    decks: u8,
-    order: &'a [u8],
-    drawn: usize,
-    discarded: usize,
-) -> bool
-    requires { Left left.now decks order.now drawn discarded }
-    ensures { result ≡ valid_order decks (take (52 * decks) order.now) }
+fn order_valid(left: &[u16; 256], decks: u8, sh: &Shoe) -> bool
+    requires { Left left.now decks sh.now.order sh.now.drawn sh.now.discarded }
+    ensures { result ≡ valid_order decks (take (52 * decks) sh.now.order) }
 {
     let mut of = *left;
-    count(&mut of, &order[discarded..drawn]);
+    count(&mut of, &sh.order[sh.discarded..sh.drawn]);
     each_face(&of, decks as u16)
 }
 
 // Whether the order is valid, at most all of it is drawn, and the discards are its first drawn cards. The counters then hold the cards that are left and
-// the discards. Order and discards are lent, so that they are copied once.
+// the discards. The shoe is taken out of the table first: lent where it lies, the whole table would be copied.
 pub fn order_sound(of: &mut [u16; 256], t: Table) -> bool
     requires { of.old ≡ no_counts }
     ensures tests { result ≡ (sound_shoe t && sound_discards t) }
     ensures counters { result ≡ true → OfValid of.new t }
 {
-    let options = t.options;
-    let decks = options.decks;
+    let decks = t.options.decks;
     let shoe = t.shoe;
     let all = 52 * (decks as usize);
     if 416 < all {
@@ -72,13 +61,11 @@ pub fn order_sound(of: &mut [u16; 256], t: Table) -> bool
     if shoe.drawn < shoe.discarded {
         return false;
     }
-    let order = shoe.order;
-    let discards = shoe.discards;
-    if !discards_first(&order, &discards, shoe.discarded) {
+    if !discards_first(&shoe) {
         return false;
     }
-    count_left(of, decks, &order, shoe.drawn, shoe.discarded);
-    order_valid(of, decks, &order, shoe.drawn, shoe.discarded)
+    count_left(of, decks, &shoe);
+    order_valid(of, decks, &shoe)
 }
 
 // Of a valid order, whether what is out is what was drawn. The counters hold the cards in hands beside those, `hands` of them; the bank's are counted here.
@@ -86,14 +73,11 @@ pub fn out_is_drawn(of: &mut [u16; 256], t: Table, hands: usize) -> bool
     requires { WithHands of.old t hands }
     ensures { result ≡ sound_faces t }
 {
-    let options = t.options;
-    let shoe = t.shoe;
-    let bank = t.bank;
-    let many = hands + count_hand(of, bank);
-    if many + shoe.discarded != shoe.drawn {
+    let many = hands + count_hand(of, t.bank);
+    if many + t.shoe.discarded != t.shoe.drawn {
         return false;
     }
-    each_face(of, options.decks as u16)
+    each_face(of, t.options.decks as u16)
 }
 
 // All three tests, of a table alone: the order is valid, the discards are its first drawn cards, and what is out is what was drawn.

@@ -8,8 +8,8 @@ ghost use Rattle.card_count.specs.Aids.Counters.{Room};
 ghost use Rattle.card_count.specs.Aids.Counted.{Counted};
 
 use crate::counters::count;
-use cards::hand::{Hand, held};
-use rules::seat_hand::{SeatHands, used};
+use cards::hand::Hand;
+use rules::seat_hand::SeatHands;
 use table::Table;
 
 // A hand's cards.
@@ -17,10 +17,9 @@ pub(crate) fn count_hand(of: &mut [u16; 256], h: Hand) -> usize
     requires { Room of.old 20 }
     ensures { Counted of.old of.new (cards_of h) result 20 }
 {
-    let n = held(h);
-    let cards = h.cards;
-    count(of, &cards[..n]);
-    n
+    let cards = h.held_cards();
+    count(of, cards);
+    cards.len()
 }
 
 // The cards of a seat's hands.
@@ -28,12 +27,9 @@ pub fn count_seat(of: &mut [u16; 256], s: SeatHands) -> usize
     requires { Room of.old 80 }
     ensures { Counted of.old of.new (flat (λ h. h.cards) (hands_of s)) result 80 }
 {
-    let n = used(s);
-    let mut many: usize = 0;
-    for i in 0usize..n {
-        let h = s.places[i];
-        let hand = h.hand;
-        many += count_hand(of, hand);
+    let mut many = 0;
+    for h in s.in_use() {
+        many += count_hand(of, h.hand);
     }
     many
 }
@@ -43,13 +39,10 @@ pub(crate) fn count_seats(of: &mut [u16; 256], t: Table) -> usize
     requires { Room of.old 720 }
     ensures { Counted of.old of.new (hand_cards t) result 720 }
 {
-    let seats = t.seats;
-    let mut many: usize = 0;
-    for i in 0usize..9 {
-        let s = seats[i];
-        let hands = s.hands;
-        if hands.many != 0 {
-            many += count_seat(of, hands);
+    let mut many = 0;
+    for s in &t.seats {
+        if s.hands.many != 0 {
+            many += count_seat(of, s.hands);
         }
     }
     many
@@ -61,6 +54,5 @@ pub(crate) fn count_in_play(of: &mut [u16; 256], t: Table) -> usize
     ensures { Counted of.old of.new (hand_cards t ++ bank_cards t) result 740 }
 {
     let hands = count_seats(of, t);
-    let h = t.bank;
-    hands + count_hand(of, h)
+    hands + count_hand(of, t.bank)
 }

@@ -18,11 +18,11 @@ pub fn rank(card: u8) -> u8
     card % 13
 }
 
+#[tactic(auto, unfolding(crate::specs::Points::points_of))]
 pub fn points(card: u8) -> u8
     ensures { result ≡ points_of card }
 {
-    let place = rank(card) as usize;
-    POINTS[place]
+    POINTS[rank(card) as usize]
 }
 
 pub fn is_ace(card: u8) -> bool

@@ -1,12 +1,22 @@
 // The hand: its cards together with their number. A count past the array is read as twenty, here and in the definitions.
 ghost use Rattle.std.specs.Prelude.{◌≡◌, min};
-ghost use Rattle.cards.specs.Hand.{empty_hand, with_card};
+ghost use Rattle.cards.specs.Hand.{cards_of, empty_hand, with_card};
 
 #[repr(C)]
 #[derive(Clone, Copy)]
 pub struct Hand {
     pub cards: [u8; 20],
+    // An array with its number and no Vec: a table is of fixed size, and C reads it.
     pub count: u8,
+}
+
+impl Hand {
+    // The cards that the hand holds, without those behind them in its array.
+    pub fn held_cards(&self) -> &[u8]
+        ensures { result.now ≡ cards_of self.now }
+    {
+        &self.cards[..held(*self)]
+    }
 }
 
 // A hand with no card.
@@ -20,6 +30,7 @@ pub fn empty_hand() -> Hand
 }
 
 // The hand with one card more, or unchanged where it has twenty.
+#[tactic(auto, unfolding(crate::specs::Hand::with_card))]
 pub fn with_card(h: Hand, card: u8) -> Hand
     ensures { result ≡ with_card h card }
 {
@@ -37,6 +48,5 @@ pub fn with_card(h: Hand, card: u8) -> Hand
 pub fn held(h: Hand) -> usize
     ensures { result ≡ min h.count 20 }
 {
-    let count = h.count as usize;
-    if count < 20 { count } else { 20 }
+    (h.count as usize).min(20)
 }

@@ -3,15 +3,15 @@ ghost use Rattle.std.specs.Prelude.{◌≡◌};
 ghost use Rattle.cards.specs.Hand.{cards_of};
 ghost use Rattle.cards.specs.Pair.{is_pair};
 
+use crate::card::rank;
 use crate::hand::Hand;
 
+#[tactic(auto, unfolding(crate::specs::Pair::is_pair))]
 pub fn is_pair(h: Hand) -> bool
     ensures { result ≡ is_pair (cards_of h) }
 {
-    if h.count != 2 {
-        return false;
+    match h.held_cards() {
+        [one, other] => rank(*one) == rank(*other),
+        _ => false,
     }
-    let first = h.cards[0];
-    let second = h.cards[1];
-    crate::card::rank(first) == crate::card::rank(second)
 }

@@ -1,40 +1,40 @@
 // cash: a guest's purse down (document 01, "The seventeen calls"; request 2.8). For every whole table, guest and amount its outcome is that of
 // cashier_spec/specs/Cash.antt.
-ghost use Rattle.std.specs.Prelude.{◌≡◌, false};
-ghost use Rattle.call.specs.Refusal.{first};
-ghost use Rattle.answer.specs.Moved.{Named, moved_outcome};
+ghost use Rattle.std.specs.Prelude.{◌≡◌};
+ghost use Rattle.call.specs.Refusal.{number_in, first};
+ghost use Rattle.answer.specs.Moved.{moved_outcome};
 ghost use Rattle.answer.specs.Outcome.{outcome};
 ghost use Rattle.cashier_spec.specs.Cash.{cash_conditions, cash_effect};
-ghost use Rattle.table.specs.Broken.{broken};
 
 use crate::purse::{purse_at, with_purse_at};
-use answer::conditions::guest_number;
-use answer::moved::{Moved, not_moved, seat_moved};
+use answer::conditions::check_guest;
+use answer::moved::{Moved, seat_moved};
 use call::At;
-use call::refusal::asked;
+use call::refusal::{Refusal, first_refusal};
 use state::round::is_dealt;
-use table::{Seat, Table};
+use table::whole::Whole;
 
-// The number of a cash: what every call of a guest asks first, then the rest of its list. A purse is read only of a guest that there is.
-fn cash_number(t: Table, s: Seat, at: At, n: u64) -> u8
-    requires { (broken t ≡ false) × Named t at.seat s }
-    ensures { result ≡ first (cash_conditions t at.seat at.position n) }
+// Why a cash is refused: what every call of a guest asks first, then the rest of its list. A purse is read only of a guest that there is.
+fn check_cash(t: &Whole, at: At, n: u64) -> Result<(), Refusal>
+    ensures { number_in result ≡ first (cash_conditions t.now at.seat at.position n) }
 {
-    let o = t.options;
-    let early = guest_number(4, is_dealt(t), o.seats, at);
-    if early != 0 {
-        return early;
-    }
-    asked(14, n == 0, asked(15, purse_at(s, at) < n, 0))
+    let table = t.table();
+    check_guest(
+        Refusal::RoundDealt,
+        is_dealt(*table),
+        table.options.seats,
+        at,
+    )?;
+    first_refusal(&[
+        (Refusal::WrongAmount, n == 0),
+        (Refusal::ShortPurse, purse_at(*t.seat(at.seat), at) < n),
+    ])
 }
 
-pub fn cash(t: Table, s: Seat, at: At, n: u64) -> Moved
-    requires { (broken t ≡ false) × Named t at.seat s }
-    ensures { moved_outcome t at.seat result ≡ outcome (cash_conditions t at.seat at.position n) (cash_effect t at.seat at.position n) t }
+pub fn cash(t: &Whole, at: At, n: u64) -> Result<Moved, Refusal>
+    ensures { moved_outcome t.now at.seat result ≡ outcome (cash_conditions t.now at.seat at.position n) (cash_effect t.now at.seat at.position n) t.now }
 {
-    let number = cash_number(t, s, at, n);
-    if number != 0 {
-        return not_moved(number, s);
-    }
-    seat_moved(t, with_purse_at(s, at, purse_at(s, at) - n))
+    check_cash(t, at, n)?;
+    let s = *t.seat(at.seat);
+    Ok(seat_moved(t.table(), with_purse_at(s, at, purse_at(s, at) - n)))
 }

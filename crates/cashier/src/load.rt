@@ -1,17 +1,16 @@
 // load: a new order for the shoe (document 01, "The seventeen calls"). For every whole table and order its outcome is that of cashier_spec/specs/Load.antt; the
 // lent order is only read.
-ghost use Rattle.std.specs.Prelude.{◌≡◌, false};
-ghost use Rattle.call.specs.Refusal.{first};
+ghost use Rattle.std.specs.Prelude.{◌≡◌};
+ghost use Rattle.call.specs.Refusal.{number_in, first};
 ghost use Rattle.table.specs.Table.{with_shoe};
-ghost use Rattle.answer.specs.Outcome.{outcome};
+ghost use Rattle.answer.specs.Outcome.{outcome, outcome_in};
 ghost use Rattle.cashier_spec.specs.Load.{load_conditions, load_effect};
-ghost use Rattle.table.specs.Broken.{broken};
 
-use answer::outcome::Outcome;
-use call::refusal::asked;
+use call::refusal::{Refusal, first_refusal};
 use card_count::valid_order::valid_order;
 use shoe::new_shoe;
 use state::round::is_dealt;
+use table::whole::Whole;
 use table::{Shoe, Table};
 
 // The table with another shoe.
@@ -23,26 +22,21 @@ fn with_shoe(t: Table, shoe: Shoe) -> Table
     next
 }
 
-// The number of a load: the conditions of its list, from the front.
-fn load_number(t: Table, order: &[u8]) -> u8
-    requires { broken t ≡ false }
-    ensures { result ≡ first (load_conditions t order.now) }
+// Why a load is refused: the conditions of its list, from the front.
+fn check_load(t: &Whole, order: &[u8]) -> Result<(), Refusal>
+    ensures { number_in result ≡ first (load_conditions t.now order.now) }
 {
-    let o = t.options;
-    asked(3, !valid_order(o.decks, order), asked(4, is_dealt(t), 0))
+    let t = t.table();
+    first_refusal(&[
+        (Refusal::WrongOrder, !valid_order(t.options.decks, order)),
+        (Refusal::RoundDealt, is_dealt(*t)),
+    ])
 }
 
-pub fn load(t: Table, order: &[u8]) -> Outcome
-    requires { broken t ≡ false }
-    ensures { result ≡ outcome (load_conditions t order.now) (load_effect t order.now) t }
+pub fn load(t: &Whole, order: &[u8]) -> Result<Table, Refusal>
+    ensures { outcome_in t.now result ≡ outcome (load_conditions t.now order.now) (load_effect t.now order.now) t.now }
 {
-    let number = load_number(t, order);
-    if number != 0 {
-        return Outcome { number, table: t };
-    }
-    let old = t.shoe;
-    Outcome {
-        number,
-        table: with_shoe(t, new_shoe(order, old.begun)),
-    }
+    check_load(t, order)?;
+    let t = t.table();
+    Ok(with_shoe(*t, new_shoe(order, t.shoe.begun)))
 }

@@ -1,15 +1,15 @@
-// The opening: a table with its options and a first order, or the empty table (document 01, "The seventeen calls"). For all options and every order its
+// The opening: a table with its options and a first order (document 01, "The seventeen calls"). For all options and every order its
 // outcome is that of cashier_spec/specs/Opening.antt; the lent order is only read.
 ghost use Rattle.std.specs.Prelude.{◌≡◌, replicate};
-ghost use Rattle.call.specs.Refusal.{first};
+ghost use Rattle.call.specs.Refusal.{number_in, first};
 ghost use Rattle.cards.specs.Hand.{empty_hand};
 ghost use Rattle.table.specs.Seat.{empty_seat};
+ghost use Rattle.table.specs.declared.Table.{Table};
 ghost use Rattle.table.specs.Table.{make_table};
-ghost use Rattle.answer.specs.Outcome.{outcome};
+ghost use Rattle.answer.specs.Outcome.{outcome, outcome_in};
 ghost use Rattle.cashier_spec.specs.Opening.{open_conditions, open_table, empty_table};
 
-use answer::outcome::Outcome;
-use call::refusal::asked;
+use call::refusal::{Refusal, first_refusal};
 use card_count::valid_order::valid_order;
 use cards::hand::empty_hand;
 use options::{Options, in_range};
@@ -31,33 +31,27 @@ fn table_of(o: Options, shoe: Shoe) -> Table
     }
 }
 
-// The empty table: no options, no cards, no money.
-fn empty_table() -> Table
+// The empty table, for whoever shows one before a table is open: no options, no cards, no money.
+pub fn empty_table() -> Table
     ensures { result ≡ empty_table }
 {
     table_of(no_options(), new_shoe(&[0u8; 0], 0))
 }
 
-// The number of an opening: the conditions of its list, from the front.
-fn open_number(o: Options, order: &[u8]) -> u8
-    ensures { result ≡ first (open_conditions o order.now) }
+// Why an opening is refused: the conditions of its list, from the front.
+fn check_opening(o: Options, order: &[u8]) -> Result<(), Refusal>
+    ensures { number_in result ≡ first (open_conditions o order.now) }
 {
-    asked(2, !in_range(o), asked(3, !valid_order(o.decks, order), 0))
+    first_refusal(&[
+        (Refusal::WrongOptions, !in_range(o)),
+        (Refusal::WrongOrder, !valid_order(o.decks, order)),
+    ])
 }
 
-// A table with these options and this order, or the empty table.
-pub fn opening(o: Options, order: &[u8]) -> Outcome
-    ensures { result ≡ outcome (open_conditions o order.now) (open_table o order.now) empty_table }
+// A table with these options and this order; where it is refused, whatever table there is stays.
+pub fn opening(o: Options, order: &[u8]) -> Result<Table, Refusal>
+    ensures { (there : Table) → outcome_in there result ≡ outcome (open_conditions o order.now) (open_table o order.now) there }
 {
-    let number = open_number(o, order);
-    if number != 0 {
-        return Outcome {
-            number,
-            table: empty_table(),
-        };
-    }
-    Outcome {
-        number,
-        table: table_of(o, new_shoe(order, 0)),
-    }
+    check_opening(o, order)?;
+    Ok(table_of(o, new_shoe(order, 0)))
 }

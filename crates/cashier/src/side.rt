@@ -1,24 +1,25 @@
 // A side stake: from purse to layout, before the deal, of a guest who has a stake, once for each kind (request 2.6). For every whole table, guest, kind and amount its
 // outcome is that of cashier_spec/specs/Side.antt.
-ghost use Rattle.std.specs.Prelude.{◌≡◌, false, ◌≤◌};
-ghost use Rattle.call.specs.Refusal.{first};
-ghost use Rattle.answer.specs.Moved.{Named, moved_outcome};
+ghost use Rattle.std.specs.Prelude.{◌≡◌, ◌≤◌};
+ghost use Rattle.call.specs.Refusal.{number_in, first};
+ghost use Rattle.answer.specs.Moved.{moved_outcome};
 ghost use Rattle.answer.specs.Outcome.{outcome};
 ghost use Rattle.payment.specs.Bets.{side as side_of};
 ghost use Rattle.table.specs.Guest.{siding};
-ghost use Rattle.table.specs.Broken.{broken};
 ghost use Rattle.cashier_spec.specs.Side.{is_side_kind, side_conditions, side_effect};
 
-use answer::conditions::seat_number;
-use answer::moved::{Moved, not_moved, seat_moved};
+use answer::conditions::check_seat;
+use answer::moved::{Moved, seat_moved};
 use call::At;
-use call::refusal::asked;
+use call::refusal::{Refusal, first_refusal};
 use options::permitted::side_permitted;
 use state::round::is_dealt;
 use state::seat::{guest_money, with_guest};
-use table::{Money, Seat, Table};
+use table::Money;
+use table::whole::Whole;
 
 // 1 any pair, 2 sevens, 3 more than 13, 4 less than 13.
+// A byte and no enum: a call carries any byte, and 21 refuses the others.
 fn is_side_kind(kind: u8) -> bool
     ensures { result ≡ is_side_kind kind }
 {
@@ -52,41 +53,35 @@ fn sided(m: Money, kind: u8, n: u64) -> Money
     next
 }
 
-// The number of a side stake: what every call of a seat asks first, 21 and 22, then the rest of its list.
-fn side_number(t: Table, s: Seat, at: At, kind: u8, n: u64) -> u8
-    requires { (broken t ≡ false) × Named t at.seat s }
-    ensures { result ≡ first (side_conditions t at.seat at.position kind n) }
+// Why a side stake is refused: what every call of a seat asks first, 21 and 22, then the rest of its list.
+fn check_side(t: &Whole, at: At, kind: u8, n: u64) -> Result<(), Refusal>
+    ensures { number_in result ≡ first (side_conditions t.now at.seat at.position kind n) }
 {
-    let o = t.options;
-    let early = seat_number(4, is_dealt(t), o.seats, at.seat);
-    if early != 0 {
-        return early;
-    }
-    let named = asked(21, !is_side_kind(kind), asked(22, 3 <= at.position, 0));
-    if named != 0 {
-        return named;
-    }
-    let money = guest_money(s, at.position);
-    let sides = money.sides;
-    asked(
-        9,
-        0 < side_of(sides, kind),
-        asked(
-            10,
-            !(0 < money.stake),
-            asked(14, !side_permitted(n), asked(15, money.purse < n, 0)),
-        ),
-    )
+    let table = t.table();
+    check_seat(
+        Refusal::RoundDealt,
+        is_dealt(*table),
+        table.options.seats,
+        at.seat,
+    )?;
+    first_refusal(&[
+        (Refusal::NoSideKind, !is_side_kind(kind)),
+        (Refusal::NoPosition, 3 <= at.position),
+    ])?;
+    let money = guest_money(*t.seat(at.seat), at.position);
+    first_refusal(&[
+        (Refusal::LaidAlready, 0 < side_of(money.sides, kind)),
+        (Refusal::NoStake, !(0 < money.stake)),
+        (Refusal::WrongAmount, !side_permitted(n)),
+        (Refusal::ShortPurse, money.purse < n),
+    ])
 }
 
-pub fn side(t: Table, s: Seat, at: At, kind: u8, n: u64) -> Moved
-    requires { (broken t ≡ false) × Named t at.seat s }
-    ensures { moved_outcome t at.seat result ≡ outcome (side_conditions t at.seat at.position kind n) (side_effect t at.seat at.position kind n) t }
+pub fn side(t: &Whole, at: At, kind: u8, n: u64) -> Result<Moved, Refusal>
+    ensures { moved_outcome t.now at.seat result ≡ outcome (side_conditions t.now at.seat at.position kind n) (side_effect t.now at.seat at.position kind n) t.now }
 {
-    let number = side_number(t, s, at, kind, n);
-    if number != 0 {
-        return not_moved(number, s);
-    }
+    check_side(t, at, kind, n)?;
+    let s = *t.seat(at.seat);
     let money = sided(guest_money(s, at.position), kind, n);
-    seat_moved(t, with_guest(s, at.position, money))
+    Ok(seat_moved(t.table(), with_guest(s, at.position, money)))
 }

@@ -4,34 +4,35 @@ use bank_chances::share::share;
 use std::io;
 use std::io::Write;
 
-fn ending<W: Write>(out: &mut W, words: &[u8], count: u64, all: u64) -> io::Result<()> {
-    let part = share(count, all);
-    out.write_all(words)?;
-    writeln!(out, "{count} {part}")
-}
+const ENDINGS: [&str; 8] = [
+    "natural",
+    "17",
+    "18",
+    "19",
+    "20",
+    "21",
+    "bust",
+    "unfinished",
+];
 
+// The number is what is printed.
 pub(crate) fn refused<W: Write>(out: &mut W, number: u8) -> io::Result<()> {
     writeln!(out, "refused {number}")
 }
 
 pub(crate) fn heading<W: Write>(out: &mut W, words: &[u8]) -> io::Result<()> {
     out.write_all(words)?;
-    out.write_all(b"\n")
+    writeln!(out)
 }
 
 pub(crate) fn answer<W: Write>(out: &mut W, c: BankChances) -> io::Result<()> {
+    // The number, as C reads it: 0 is accepted.
     if c.number != 0 {
         return refused(out, c.number);
     }
-    let all = c.all;
-    let counts = c.counts;
-    writeln!(out, "draws {all}")?;
-    ending(out, b"natural ", counts[0], all)?;
-    ending(out, b"17 ", counts[1], all)?;
-    ending(out, b"18 ", counts[2], all)?;
-    ending(out, b"19 ", counts[3], all)?;
-    ending(out, b"20 ", counts[4], all)?;
-    ending(out, b"21 ", counts[5], all)?;
-    ending(out, b"bust ", counts[6], all)?;
-    ending(out, b"unfinished ", counts[7], all)
+    writeln!(out, "draws {}", c.all)?;
+    for (ending, count) in ENDINGS.iter().zip(&c.counts) {
+        writeln!(out, "{ending} {count} {}", share(*count, c.all))?;
+    }
+    Ok(())
 }

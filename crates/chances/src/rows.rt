@@ -1,85 +1,74 @@
-// The rows of the script. At 0 stands the letter, at 2 the up card, at 5 the decks, at 7 the depth, at 9 the device, at 11 the staked seats, at 21 the words, or the cards.
-ghost use Rattle.std.specs.Prelude.{◌≤◌, length};
-
+// The rows of the script. At 0 stands the letter, at 2 the up card, at 5 the decks, at 7 the depth, at 9 the device, at 11 the staked seats, from 21 on the words, or the cards.
 use crate::{lines, packs, tables};
 use bank_chances::chances;
 use faces_left::faces_left;
-use script::named::{cards_named, many_named};
-use script::orders::{Order, begun_order};
-use script::{card, digit, end_of};
+use script::named::{cards_named, many_named, order_named};
+use script::{card, digit};
 use std::io;
 use std::io::Write;
 
-// The cards from 21 on, as a pack.
-fn pack(row: &[u8]) -> [u8; 52]
-    requires { 21 ≤ length row.now }
-{
-    let letters = &row[21..];
-    let cards = cards_named(letters);
-    let n = many_named(letters);
-    packs::named(&cards[..n])
+// The letters in front, which every row has, then the words.
+#[derive(Clone, Copy)]
+struct Row<'a> {
+    all: &'a [u8],
+    front: &'a [u8; 21],
+    words: &'a [u8],
 }
 
-// The order that begins with them.
-fn order(row: &[u8], decks: u8) -> Order
-    requires { 21 ≤ length row.now }
-{
-    let letters = &row[21..];
-    let cards = cards_named(letters);
-    let n = many_named(letters);
-    begun_order(&cards[..n], decks)
+impl<'a> Row<'a> {
+    // A line that is too short is no row.
+    fn read(all: &'a [u8]) -> Option<Self> {
+        let (front, words) = all.split_first_chunk::<21>()?;
+        Some(Row { all, front, words })
+    }
+
+    fn decks(&self) -> u8 {
+        digit(self.front[5])
+    }
+
+    fn depth(&self) -> u8 {
+        digit(self.front[7])
+    }
+
+    // The cards that are named, as a pack.
+    fn pack(&self) -> [u8; 52] {
+        let cards = cards_named(self.words);
+        packs::named(&cards[..many_named(self.words)])
+    }
 }
 
 // The up card and the faces left are those of the table.
-fn of_table<W: Write>(out: &mut W, row: &[u8]) -> io::Result<()>
-    requires { 21 ≤ length row.now }
-{
-    let decks = digit(row[5]);
-    let t = tables::dealt(digit(row[9]), decks, digit(row[11]), order(row, decks));
-    let found = faces_left(t);
+fn of_table<W: Write>(out: &mut W, row: Row<'_>) -> io::Result<()> {
+    let decks = row.decks();
+    let order = order_named(row.words, decks);
+    let table = tables::dealt(digit(row.front[9]), decks, digit(row.front[11]), order);
+    let found = faces_left(table);
+    // The number, as C reads it: 0 is accepted.
     if found.number != 0 {
         return lines::refused(out, found.number);
     }
-    let left = found.left;
-    lines::answer(out, chances(found.up, left, digit(row[7])))
+    lines::answer(out, chances(found.up, found.left, row.depth()))
 }
 
-fn question<W: Write>(out: &mut W, row: &[u8]) -> io::Result<()>
-    requires { 21 ≤ length row.now }
-{
-    let letter = row[0];
-    let up = card(row[2], row[3]);
-    let decks = digit(row[5]);
-    let depth = digit(row[7]);
-    lines::heading(out, row)?;
-    match letter {
+fn question<W: Write>(out: &mut W, row: Row<'_>) -> io::Result<()> {
+    let up = card(row.front[2], row.front[3]);
+    let decks = row.decks();
+    let depth = row.depth();
+    lines::heading(out, row.all)?;
+    match row.front[0] {
         b'd' => lines::answer(out, chances(up, packs::decks_less(decks, up), depth)),
         b'x' => lines::answer(out, chances(52, packs::decks_less(decks, 52), depth)),
-        b'p' => lines::answer(out, chances(up, pack(row), depth)),
+        b'p' => lines::answer(out, chances(up, row.pack(), depth)),
         _ => of_table(out, row),
     }
 }
 
-// A row that begins with # is words.
-fn row_answered<W: Write>(out: &mut W, row: &[u8]) -> io::Result<()>
-    requires { 21 ≤ length row.now }
-{
-    let letter = row[0];
-    match letter {
-        b'#' => Ok(()),
-        _ => question(out, row),
-    }
-}
-
-// Each row long enough to be one.
+// Each line long enough to be a row; one that begins with # is words.
 pub(crate) fn each<W: Write>(out: &mut W, text: &[u8]) -> io::Result<()> {
-    let mut at = 0;
-    while at < text.len() {
-        let end = end_of(text, at);
-        if 21 <= end - at {
-            row_answered(out, &text[at..end])?;
+    for row in text.split(|letter| *letter == b'\n').filter_map(Row::read) {
+        if row.front[0] != b'#' {
+            question(out, row)?;
         }
-        at = end + 1;
     }
     Ok(())
 }

@@ -9,14 +9,14 @@ mod paying;
 mod seats;
 pub mod void;
 
-ghost use Rattle.std.specs.Prelude.{◌≡◌, false, cond, eqb};
-ghost use Rattle.call.specs.Refusal.{first};
+ghost use Rattle.std.specs.Prelude.{◌≡◌, cond, eqb, Ok};
+ghost use Rattle.call.specs.Refusal.{number_in, first};
 ghost use Rattle.cards.specs.Hand.{cards_of};
 ghost use Rattle.payment.specs.Bank.{must_draw, score_of};
-ghost use Rattle.table.specs.Broken.{broken};
 ghost use Rattle.close_spec.specs.BankDraw.{bank_at_close};
 ghost use Rattle.close_spec.specs.Close.{close_conditions, close_effect, close_shown};
 ghost use Rattle.answer.specs.Reply.{make_reply_view, reply_by, given_by, given_of};
+ghost use Rattle.close.specs.Settled.{closed_reply};
 ghost use Rattle.close.specs.Aids.Closes.{Closes};
 
 use crate::bank_draw::bank_at_close;
@@ -26,9 +26,9 @@ use crate::paying::seats_back;
 use crate::seats::{Ending, ended_seats};
 use answer::outcome::Outcome;
 use answer::reply::{Answer, Reply, plain_reply};
-use answer::scores::{no_scores, with_score};
+use answer::scores::{Scores, no_scores, with_score};
 use call::pay_line::LINES;
-use call::refusal::asked;
+use call::refusal::{Refusal, first_refusal};
 use cards::hand::{Hand, empty_hand};
 use cards::score::hand_score;
 use money::sums::table_sums;
@@ -36,14 +36,17 @@ use payment::bank::{Score, must_draw, score_of};
 use state::round::is_dealt;
 use state::turn::seat_in_turn;
 use table::Table;
+use table::whole::Whole;
 
-// The numbers that do not ask for the bank's cards: 5, 7.
-fn early_number(t: Table) -> u8
-    requires { broken t ≡ false }
-    ensures { first (close_conditions t) ≡ cond (eqb result 0) (cond (must_draw (bank_at_close t)) 18 0) result }
+// The refusals that do not ask for the bank's cards: 5, 7.
+fn check_early(t: &Whole) -> Result<(), Refusal>
+    ensures { first (close_conditions t.now) ≡ cond (eqb (number_in result) 0) (cond (must_draw (bank_at_close t.now)) 18 0) (number_in result) }
 {
-    let turn = seat_in_turn(t);
-    asked(5, !is_dealt(t), asked(7, turn < 9, 0))
+    let t = t.table();
+    first_refusal(&[
+        (Refusal::NoRound, !is_dealt(*t)),
+        (Refusal::HandWaits, seat_in_turn(*t) < 9),
+    ])
 }
 
 // The table after an accepted close: what lay on the layout goes to the tray, what goes back comes from it.
@@ -60,43 +63,62 @@ fn closed(t: Table, bank: Hand, score: Score) -> Table
     next
 }
 
-// An accepted close: its bank's cards and their score, its lines and its table.
-fn settled(t: Table, bank: Hand, names: &mut [u32; LINES], nets: &mut [i64; LINES]) -> Reply
+// An accepted close: its bank's cards and their score, the number of its lines, and its table.
+#[derive(Clone, Copy)]
+pub struct Settled {
+    pub bank: Hand,
+    pub scores: Scores,
+    pub lines: usize,
+    pub table: Table,
+}
+
+fn settle(t: Table, bank: Hand, names: &mut [u32; LINES], nets: &mut [i64; LINES]) -> Settled
     requires { Closes t bank }
-    ensures { given_of result names.new nets.new ≡ given_by (make_reply_view 0 (close_shown t) (close_effect t)) names.old nets.old }
+    ensures { given_of (closed_reply t (Ok result)) names.new nets.new ≡ given_by (make_reply_view 0 (close_shown t) (close_effect t)) names.old nets.old }
 {
     let score = score_of(bank);
     let lines = all_lines(names, nets, t, score);
-    let table = closed(t, bank, score);
-    let scores = with_score(no_scores(), hand_score(bank));
-    Reply {
-        answer: Answer {
-            number: 0,
-            bank,
-            lines,
-            scores,
-        },
-        table,
+    Settled {
+        bank,
+        scores: with_score(no_scores(), hand_score(bank)),
+        lines,
+        table: closed(t, bank, score),
     }
 }
 
-pub fn close(t: Table, names: &mut [u32; LINES], nets: &mut [i64; LINES]) -> Reply
-    requires { broken t ≡ false }
-    ensures { given_of result names.new nets.new ≡ given_by (reply_by (close_conditions t) (close_shown t) (close_effect t) t) names.old nets.old }
+pub fn close(
+    t: &Whole,
+    names: &mut [u32; LINES],
+    nets: &mut [i64; LINES],
+) -> Result<Settled, Refusal>
+    ensures { given_of (closed_reply t.now result) names.new nets.new ≡ given_by (reply_by (close_conditions t.now) (close_shown t.now) (close_effect t.now) t.now) names.old nets.old }
 {
-    let early = early_number(t);
-    if early != 0 {
-        return plain_reply(Outcome {
-            number: early,
-            table: t,
-        });
-    }
-    let bank = bank_at_close(t);
+    check_early(t)?;
+    let t = t.table();
+    let bank = bank_at_close(*t);
     if must_draw(bank) {
-        return plain_reply(Outcome {
-            number: 18,
-            table: t,
-        });
+        return Err(Refusal::NoCards);
     }
-    settled(t, bank, names, nets)
+    Ok(settle(*t, bank, names, nets))
+}
+
+// The reply of a close on the table t.
+pub fn closed_reply(t: &Table, r: Result<Settled, Refusal>) -> Reply
+    ensures { result ≡ closed_reply t.now r }
+{
+    match r {
+        Ok(s) => Reply {
+            answer: Answer {
+                number: 0,
+                bank: s.bank,
+                lines: s.lines,
+                scores: s.scores,
+            },
+            table: s.table,
+        },
+        Err(why) => plain_reply(Outcome {
+            number: why.number(),
+            table: *t,
+        }),
+    }
 }

@@ -14,11 +14,12 @@ use payment::hand_pay::hand_pay;
 use payment::insurance::insurance_pay;
 use payment::pay::Pay;
 use payment::side_pay::side_pay;
-use rules::seat_hand::{SeatHands, used};
+use rules::seat_hand::SeatHands;
 use state::seat::guest_at;
 use table::{Seat, Table};
 
 // One line: its name, and the net, what goes back less what lay there.
+// Here and below two arrays of the caller's, since C lends them so; a struct of the two would copy them.
 fn put_line(names: &mut [u32; LINES], nets: &mut [i64; LINES], at: usize, name: u32, p: Pay)
     requires { (at < 243) × (p.laid ≤ 1000000000000000) × (p.back ≤ 1000000000000000) }
     ensures named { names.new ≡ set names.old at name }
@@ -45,14 +46,13 @@ fn hand_lines(
     ensures few { result ≤ at + 4 }
     ensures lines { LinesAt names.old nets.old at (map (line_of seat position) (hand_pays o bank stake 0 (hands_of hands))) names.new nets.new result }
 {
-    let n = used(hands);
-    for place in 0usize..n {
-        let h = hands.places[place];
-        let pay = hand_pay(o, bank, stake, h);
+    let in_use = hands.in_use();
+    for (place, h) in in_use.iter().enumerate() {
+        let pay = hand_pay(o, bank, stake, *h);
         let name = line_name(seat, position, place as u8, HAND);
         put_line(names, nets, at + place, name, pay);
     }
-    at + n
+    at + in_use.len()
 }
 
 // A line for the insurance, if there is one.
@@ -185,9 +185,8 @@ pub(crate) fn all_lines(
 {
     let o = t.options;
     let mut at: usize = 0;
-    for i in 0usize..9 {
-        let s = t.seats[i];
-        at = seat_lines(names, nets, at, o, bank, i as u8, s);
+    for (i, s) in t.seats.iter().enumerate() {
+        at = seat_lines(names, nets, at, o, bank, i as u8, *s);
     }
     at
 }

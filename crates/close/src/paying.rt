@@ -13,7 +13,7 @@ use payment::bank::Score;
 use payment::hand_pay::hand_pay;
 use payment::insurance::insurance_pay;
 use payment::side_pay::side_pay;
-use rules::seat_hand::{SeatHands, used};
+use rules::seat_hand::SeatHands;
 use state::seat::{guest_at, guest_money, no_money};
 use table::{Seat, Table};
 
@@ -22,17 +22,15 @@ fn hands_back(o: Options, bank: Score, stake: u32, hands: SeatHands) -> u64
     ensures same { result ≡ sum_of (λ h. (hand_pay o bank stake h).back) (hands_of hands) }
     ensures small { result ≤ 68719476736 }
 {
-    let n = used(hands);
-    let mut all: u64 = 0;
-    for place in 0usize..n {
-        let h = hands.places[place];
-        let pay = hand_pay(o, bank, stake, h);
-        all += pay.back;
-    }
-    all
+    hands
+        .in_use()
+        .iter()
+        .map(|h| hand_pay(o, bank, stake, *h).back)
+        .sum()
 }
 
 // What goes back for a side stake: at most 5001 times as much.
+// `split` is a fact of the hands, worked out once for all four kinds, and no choice of the caller's.
 fn side_back(kind: u8, stake: u32, first: [u8; 3], split: bool) -> u64
     ensures same { result ≡ (side_pay kind stake (take (cond split 3 2) first)).back }
     ensures small { result ≤ 21479131447296 }
@@ -91,11 +89,9 @@ fn seat_back(o: Options, bank: Score, s: Seat) -> u64
 pub(crate) fn seats_back(t: Table, bank: Score) -> u64
     ensures { result ≡ sum_of (over_guests (guest_back t.options bank)) t.seats }
 {
-    let o = t.options;
     let mut all: u64 = 0;
-    for seat in 0usize..9 {
-        let s = t.seats[seat];
-        all += seat_back(o, bank, s);
+    for s in &t.seats {
+        all += seat_back(t.options, bank, *s);
     }
     all
 }

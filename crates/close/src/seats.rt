@@ -80,9 +80,8 @@ pub(crate) fn ended_seats(t: Table, ending: Ending) -> Table
 {
     let o = t.options;
     let mut next = t;
-    for i in 0usize..9 {
-        let s = t.seats[i];
-        next.seats[i] = ended_seat(o, ending, s);
+    for (i, s) in t.seats.iter().enumerate() {
+        next.seats[i] = ended_seat(o, ending, *s);
     }
     next
 }

@@ -1,19 +1,18 @@
 // void: a misdeal. Each guest gets back what was laid in this round and returns the prizes, which the tray gets; drawn cards become discards
 // (document 01, "The seventeen calls").
-ghost use Rattle.std.specs.Prelude.{◌≡◌, false};
-ghost use Rattle.call.specs.Refusal.{first};
-ghost use Rattle.answer.specs.Outcome.{outcome};
+ghost use Rattle.std.specs.Prelude.{◌≡◌};
+ghost use Rattle.call.specs.Refusal.{number_in, first};
+ghost use Rattle.answer.specs.Outcome.{outcome, outcome_in};
 ghost use Rattle.table.specs.Aids.Sound.{Sound};
 ghost use Rattle.close_spec.specs.Void.{void_conditions, void_effect};
-ghost use Rattle.table.specs.Broken.{broken};
 
 use crate::seats::{Ending, ended_seats};
-use answer::outcome::Outcome;
-use call::refusal::asked;
+use call::refusal::{Refusal, first_refusal};
 use cards::hand::empty_hand;
 use money::sums::table_sums;
 use shoe::discard_drawn;
 use table::Table;
+use table::whole::Whole;
 
 // The guests with what they laid, the prizes in the tray, and all drawn cards as discards.
 fn voided(t: Table) -> Table
@@ -28,24 +27,16 @@ fn voided(t: Table) -> Table
     next
 }
 
-fn void_number(t: Table) -> u8
-    requires { broken t ≡ false }
-    ensures { result ≡ first (void_conditions t) }
+fn check_void(t: &Whole) -> Result<(), Refusal>
+    ensures { number_in result ≡ first (void_conditions t.now) }
 {
-    let sums = table_sums(t);
-    asked(6, sums.stakes == 0, 0)
+    let sums = table_sums(*t.table());
+    first_refusal(&[(Refusal::NothingStaked, sums.stakes == 0)])
 }
 
-pub fn void(t: Table) -> Outcome
-    requires { broken t ≡ false }
-    ensures { result ≡ outcome (void_conditions t) (void_effect t) t }
+pub fn void(t: &Whole) -> Result<Table, Refusal>
+    ensures { outcome_in t.now result ≡ outcome (void_conditions t.now) (void_effect t.now) t.now }
 {
-    let number = void_number(t);
-    if number != 0 {
-        return Outcome { number, table: t };
-    }
-    Outcome {
-        number,
-        table: voided(t),
-    }
+    check_void(t)?;
+    Ok(voided(*t.table()))
 }

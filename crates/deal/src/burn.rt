@@ -7,7 +7,6 @@ ghost use Rattle.deal_spec.specs.Deal.{deal_takes};
 use crate::pass::staked_seats;
 use options::Options;
 use options::device::{bank_at_deal, is_machine};
-use shoe::card_ahead;
 use table::{Shoe, Table};
 
 // Whether the next deal takes the first burn: the machine's first one, else one from a fresh shoe.
@@ -49,13 +48,11 @@ pub(crate) fn burn(sh: Shoe, decks: u8, n: usize) -> Shoe
     ensures { result ≡ discard sh (take n (left_of decks sh)) }
 {
     let at = sh.discarded;
-    let order = sh.order;
     let mut discards = sh.discards;
-    for i in 0usize..n {
-        discards[at + i] = card_ahead(&order[..], sh.drawn, i);
+    discards[at..at + n].copy_from_slice(&sh.order[sh.drawn..sh.drawn + n]);
+    Shoe {
+        discards,
+        discarded: at + n,
+        ..sh
     }
-    let mut next = sh;
-    next.discards = discards;
-    next.discarded = at + n;
-    next
 }

@@ -5,22 +5,21 @@
 mod burn;
 mod pass;
 
-ghost use Rattle.std.specs.Prelude.{◌≡◌, false};
-ghost use Rattle.call.specs.Refusal.{first};
-ghost use Rattle.answer.specs.Outcome.{outcome};
+ghost use Rattle.std.specs.Prelude.{◌≡◌};
+ghost use Rattle.call.specs.Refusal.{number_in, first};
+ghost use Rattle.answer.specs.Outcome.{outcome, outcome_in};
 ghost use Rattle.deal_spec.specs.Deal.{load_due, dealt_bank, deal_conditions, deal_effect};
-ghost use Rattle.table.specs.Broken.{broken};
 
 use crate::burn::{burn, burn_at_deal, deal_takes};
 use crate::pass::{pass, staked_seats};
-use answer::outcome::Outcome;
-use call::refusal::asked;
+use call::refusal::{Refusal, first_refusal};
 use cards::hand::{Hand, empty_hand, with_card};
 use money::sums::table_sums;
 use options::Options;
 use options::device::{is_box, is_shoe};
 use shoe::{card_ahead, with_drawn};
 use state::round::{cards_left, is_dealt};
+use table::whole::Whole;
 use table::{Shoe, Table};
 
 // Box and machine need a new order after a dealt round.
@@ -30,31 +29,22 @@ fn load_due(o: Options, sh: Shoe) -> bool
     !is_shoe(o) && sh.drawn != 0
 }
 
-fn deal_number(t: Table) -> u8
-    requires { broken t ≡ false }
-    ensures { result ≡ first (deal_conditions t) }
+// Why a deal is refused: the conditions of its list, from the front.
+fn check_deal(t: &Whole) -> Result<(), Refusal>
+    ensures { number_in result ≡ first (deal_conditions t.now) }
 {
+    let t = t.table();
     let o = t.options;
-    let behind = o.cut as usize;
-    let left = cards_left(t);
-    let sums = table_sums(t);
-    asked(
-        4,
-        is_dealt(t),
-        asked(
-            6,
-            sums.stakes == 0,
-            asked(
-                16,
-                t.tray < sums.cover,
-                asked(
-                    17,
-                    load_due(o, t.shoe),
-                    asked(17, left <= behind, asked(17, left < deal_takes(t), 0)),
-                ),
-            ),
-        ),
-    )
+    let left = cards_left(*t);
+    let sums = table_sums(*t);
+    first_refusal(&[
+        (Refusal::RoundDealt, is_dealt(*t)),
+        (Refusal::NothingStaked, sums.stakes == 0),
+        (Refusal::ShortTray, t.tray < sums.cover),
+        (Refusal::ShortShoe, load_due(o, t.shoe)),
+        (Refusal::ShortShoe, left <= usize::from(o.cut)),
+        (Refusal::ShortShoe, left < deal_takes(*t)),
+    ])
 }
 
 // The bank's cards: the up card, and with the box the hidden one.
@@ -90,16 +80,9 @@ fn dealt(t: Table) -> Table
     next
 }
 
-pub fn deal(t: Table) -> Outcome
-    requires { broken t ≡ false }
-    ensures { result ≡ outcome (deal_conditions t) (deal_effect t) t }
+pub fn deal(t: &Whole) -> Result<Table, Refusal>
+    ensures { outcome_in t.now result ≡ outcome (deal_conditions t.now) (deal_effect t.now) t.now }
 {
-    let number = deal_number(t);
-    if number != 0 {
-        return Outcome { number, table: t };
-    }
-    Outcome {
-        number,
-        table: dealt(t),
-    }
+    check_deal(t)?;
+    Ok(dealt(*t.table()))
 }

@@ -23,14 +23,14 @@ pub(crate) fn staked_seats(t: Table) -> usize
     ensures few { result ≤ 9 }
 {
     let mut n: usize = 0;
-    for i in 0usize..9 {
-        let s = t.seats[i];
-        n += taken(s);
+    for s in &t.seats {
+        n += taken(*s);
     }
     n
 }
 
 // The hand that a seat's card goes to: an empty one in the first pass, then that of its first place.
+// Here and below `first` is a value that the definition of a pass takes as well: the two passes are one walk.
 fn hand_for(first: bool, s: SeatHands) -> Hand
     ensures { result ≡ hand_for first s }
 {
@@ -95,10 +95,9 @@ pub(crate) fn pass(t: Table, first: bool, at: usize) -> Table
     let order = shoe.order;
     let mut next = t;
     let mut n = at;
-    for i in 0usize..9 {
-        let s = t.seats[i];
-        next.seats[i] = served(first, s, card_ahead(&order[..], shoe.drawn, n));
-        n += taken(s);
+    for (i, s) in t.seats.iter().enumerate() {
+        next.seats[i] = served(first, *s, card_ahead(&order[..], shoe.drawn, n));
+        n += taken(*s);
     }
     next
 }

@@ -13,6 +13,7 @@ use crate::lights::{SeatLights, all_dark, all_lights};
 use crate::rows::{Row, Rows, all_rows, no_rows};
 use broken::broken;
 use table::Table;
+use table::whole::Whole;
 
 // The fields by seat and position; six rows, how many of them show a hand, and how many hands there are beyond them.
 #[repr(C)]
@@ -29,20 +30,11 @@ fn made(seats: [SeatLights; 9], rows: Rows) -> Screen
     ensures { result ≡ held_screen seats rows }
 {
     let each = rows.each;
-    let count = rows.count;
-    if count < 6 {
-        return Screen {
-            seats,
-            rows: each,
-            shown: count,
-            beyond: 0,
-        };
-    }
     Screen {
         seats,
         rows: each,
-        shown: 6,
-        beyond: count - 6,
+        shown: rows.count.min(6),
+        beyond: rows.count.saturating_sub(6),
     }
 }
 
@@ -53,5 +45,6 @@ pub fn shown_screen(t: Table) -> Screen
     if broken(t) {
         return made(all_dark(t), no_rows());
     }
-    made(all_lights(t), all_rows(t))
+    let whole = Whole::new(t);
+    made(all_lights(&whole), all_rows(&whole))
 }

@@ -1,14 +1,15 @@
 // The touch fields of a guest, each lit where a step of its call with its smallest permitted amount would be accepted.
-ghost use Rattle.std.specs.Prelude.{◌≡◌, true, false, ◌<◌};
+ghost use Rattle.std.specs.Prelude.{◌≡◌, true, ◌<◌};
 ghost use Rattle.table.specs.Broken.{broken};
 ghost use Rattle.dealer_screen.specs.Lights.{accepts as accepts_by, smallest_insurance, lights_at, seat_lights, all_lights};
 ghost use Rattle.dealer_screen.specs.Laws.{dark as dark_lights};
 
 use call::pay_line::LINES;
 use call::{At, Call};
-use engine::step_checked;
-use state::seat::{guest_money, seat_at};
+use engine::step_whole;
+use state::seat::guest_money;
 use table::Table;
+use table::whole::Whole;
 
 #[repr(C)]
 #[derive(Clone, Copy)]
@@ -38,34 +39,32 @@ pub struct SeatLights {
 }
 
 // Whether a call would be accepted now.
-fn accepts(t: Table, c: Call) -> bool
-    requires { broken t ≡ false }
-    ensures { result ≡ accepts_by t c }
+fn accepts(t: &Whole, c: Call) -> bool
+    ensures { result ≡ accepts_by t.now c }
 {
     let mut names = [0u32; LINES];
     let mut nets = [0i64; LINES];
-    let r = step_checked(t, c, b"", &mut names, &mut nets);
-    let answer = r.answer;
-    answer.number == 0
+    let r = step_whole(t, c, b"", &mut names, &mut nets);
+    // An answer's number, as C reads it: 0 is accepted.
+    r.answer.number == 0
 }
 
 // Half of the guest's stake. It asks for one of the 27.
-fn smallest_insurance(t: Table, at: At) -> u64
+fn smallest_insurance(t: &Whole, at: At) -> u64
     requires seat { at.seat < 9 }
     requires position { at.position < 3 }
-    ensures { result ≡ smallest_insurance t at }
+    ensures { result ≡ smallest_insurance t.now at }
 {
-    let money = guest_money(seat_at(t, at.seat as usize), at.position);
+    let money = guest_money(*t.seat(at.seat), at.position);
     (money.stake / 2) as u64
 }
 
-fn lights_at(t: Table, at: At) -> Lights
-    requires whole { broken t ≡ false }
+fn lights_at(t: &Whole, at: At) -> Lights
     requires seat { at.seat < 9 }
     requires position { at.position < 3 }
-    ensures { result ≡ lights_at t at }
+    ensures { result ≡ lights_at t.now at }
 {
-    let o = t.options;
+    let o = t.table().options;
     Lights {
         buy: accepts(t, Call::Buy(at, 1)),
         cash: accepts(t, Call::Cash(at, 1)),
@@ -107,10 +106,9 @@ fn dark() -> Lights
     }
 }
 
-fn seat_lights(t: Table, seat: u8) -> SeatLights
-    requires whole { broken t ≡ false }
-    requires one { seat < 9 }
-    ensures { result ≡ seat_lights t seat }
+fn seat_lights(t: &Whole, seat: u8) -> SeatLights
+    requires { seat < 9 }
+    ensures { result ≡ seat_lights t.now seat }
 {
     let seated = lights_at(t, At { seat, position: 0 });
     let one = lights_at(t, At { seat, position: 1 });
@@ -120,9 +118,8 @@ fn seat_lights(t: Table, seat: u8) -> SeatLights
     }
 }
 
-pub(crate) fn all_lights(t: Table) -> [SeatLights; 9]
-    requires { broken t ≡ false }
-    ensures { result ≡ all_lights t }
+pub(crate) fn all_lights(t: &Whole) -> [SeatLights; 9]
+    ensures { result ≡ all_lights t.now }
 {
     [
         seat_lights(t, 0),
@@ -142,7 +139,8 @@ pub(crate) fn all_dark(t: Table) -> [SeatLights; 9]
     requires { broken t ≡ true }
     ensures { result ≡ all_lights t }
 {
-    let none = dark();
-    let seat = SeatLights { guests: [none; 3] };
+    let seat = SeatLights {
+        guests: [dark(); 3],
+    };
     [seat; 9]
 }

@@ -1,6 +1,5 @@
 // The rows of hands: first those that wait, which begin with the one whose turn it is, then the others, both by seat and place.
-ghost use Rattle.std.specs.Prelude.{◌≡◌, false, [], ◌+◌, ◌≤◌, ◌<◌};
-ghost use Rattle.table.specs.Broken.{broken};
+ghost use Rattle.std.specs.Prelude.{◌≡◌, [], ◌+◌, ◌≤◌, ◌<◌};
 ghost use Rattle.dealer_screen.specs.Rows.{row as row_by, no_row, seat_rows, table_rows, all_rows};
 ghost use Rattle.dealer_screen.specs.Aids.Held.{rows_of, with_row, with_rows, wanted as wanted_by};
 
@@ -10,6 +9,7 @@ use options::Options;
 use rules::seat_hand::{SeatHand, used};
 use rules::waits::waits;
 use state::round::up;
+use table::whole::Whole;
 use table::{Seat, Table};
 
 // Seat, place, cards and total of a hand.
@@ -22,7 +22,7 @@ pub struct Row {
     pub total: u8,
 }
 
-// The first six rows, and how many hands there are in all.
+// The first six rows, and how many hands there are in all, more than six too.
 #[derive(Clone, Copy)]
 pub(crate) struct Rows {
     pub each: [Row; 6],
@@ -32,13 +32,11 @@ pub(crate) struct Rows {
 fn hand_row(seat: usize, place: usize, h: SeatHand) -> Row
     ensures { result ≡ row_by seat place h }
 {
-    let hand = h.hand;
-    let score = hand_score(hand);
     Row {
         seat,
         place,
-        hand,
-        total: score.total,
+        hand: h.hand,
+        total: hand_score(h.hand).total,
     }
 }
 
@@ -77,6 +75,7 @@ fn with_row(rows: Rows, r: Row) -> Rows
 }
 
 // Whether the hand is one of those that are gathered: that wait, or that do not.
+// `waiting` is a value that the definition takes as well: the rows are gathered by two walks of one kind.
 fn wanted(waiting: bool, o: Options, card: u8, many: usize, h: SeatHand) -> bool
     ensures { result ≡ wanted_by waiting o card many h }
 {
@@ -90,13 +89,11 @@ fn seat_rows(rows: Rows, waiting: bool, o: Options, card: u8, seat: usize, s: Se
     ensures same { result ≡ with_rows rows (seat_rows waiting o card seat s) }
     ensures few { result.count ≤ rows.count + 4 }
 {
-    let hands = s.hands;
-    let many = used(hands);
+    let many = used(s.hands);
     let mut next = rows;
-    for place in 0usize..many {
-        let h = hands.places[place];
-        if wanted(waiting, o, card, many, h) {
-            next = with_row(next, hand_row(seat, place, h));
+    for (place, h) in s.hands.in_use().iter().enumerate() {
+        if wanted(waiting, o, card, many, *h) {
+            next = with_row(next, hand_row(seat, place, *h));
         }
     }
     next
@@ -108,21 +105,18 @@ fn table_rows(rows: Rows, waiting: bool, t: Table) -> Rows
     ensures same { result ≡ with_rows rows (table_rows waiting t) }
     ensures few { result.count ≤ rows.count + 36 }
 {
-    let o = t.options;
     let card = up(t);
-    let seats = t.seats;
     let mut next = rows;
-    for i in 0usize..9 {
-        let s = seats[i];
-        next = seat_rows(next, waiting, o, card, i, s);
+    for (i, s) in t.seats.iter().enumerate() {
+        next = seat_rows(next, waiting, t.options, card, i, *s);
     }
     next
 }
 
-pub(crate) fn all_rows(t: Table) -> Rows
-    requires { broken t ≡ false }
-    ensures { result ≡ rows_of (all_rows t) }
+pub(crate) fn all_rows(t: &Whole) -> Rows
+    ensures { result ≡ rows_of (all_rows t.now) }
 {
-    let waiting = table_rows(no_rows(), true, t);
-    table_rows(waiting, false, t)
+    let t = t.table();
+    let waiting = table_rows(no_rows(), true, *t);
+    table_rows(waiting, false, *t)
 }

@@ -1,4 +1,2 @@
 -- What only proofs and the contracts of private functions cite: nothing here has to be believed.
 pub mod InTurn
-pub mod EndedHand
-pub mod Acted

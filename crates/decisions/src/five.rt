@@ -1,37 +1,32 @@
 // five: a hand of exactly five cards leaves with half its stake won, paid at close (document 01, "The seventeen calls", the guest; article 19).
-ghost use Rattle.std.specs.Prelude.{◌≡◌, false};
-ghost use Rattle.call.specs.Refusal.{first};
-ghost use Rattle.answer.specs.Moved.{Named, moved_outcome};
+ghost use Rattle.std.specs.Prelude.{◌≡◌};
+ghost use Rattle.call.specs.Refusal.{number_in, first};
+ghost use Rattle.answer.specs.Moved.{moved_outcome};
 ghost use Rattle.answer.specs.Outcome.{outcome};
 ghost use Rattle.decisions_spec.specs.Five.{five_conditions, five_effect};
-ghost use Rattle.table.specs.Broken.{broken};
 
-use crate::end::answer;
-use crate::turn::{may_take, turn_number};
+use crate::end::ended;
+use crate::turn::{check_turn, hand_in_turn};
 use answer::moved::Moved;
 use call::At;
-use call::refusal::asked;
+use call::refusal::{Refusal, first_refusal};
+use rules::leaving::permits_five;
 use rules::seat_hand::BY_FIVE;
-use state::round::up;
-use table::{Seat, Table};
+use table::whole::Whole;
 
 // Behind the conditions in turn: 13 the rules do not permit it to that hand.
-fn five_number(t: Table, s: Seat, at: At) -> u8
-    requires { (broken t ≡ false) × Named t at.seat s }
-    ensures { result ≡ first (five_conditions t at.seat at.position) }
+fn check_five(t: &Whole, at: At) -> Result<(), Refusal>
+    ensures { number_in result ≡ first (five_conditions t.now at.seat at.position) }
 {
-    let number = turn_number(t, s, at);
-    if number != 0 {
-        return number;
-    }
-    let o = t.options;
-    asked(13, !may_take(o, up(t), s, BY_FIVE), 0)
+    check_turn(t, at)?;
+    let turn = hand_in_turn(t, at);
+    let permitted = permits_five(t.table().options, turn.up, turn.many, turn.hand);
+    first_refusal(&[(Refusal::Barred, !permitted)])
 }
 
-pub fn five(t: Table, s: Seat, at: At) -> Moved
-    requires { (broken t ≡ false) × Named t at.seat s }
-    ensures { moved_outcome t at.seat result ≡ outcome (five_conditions t at.seat at.position) (five_effect t at.seat) t }
+pub fn five(t: &Whole, at: At) -> Result<Moved, Refusal>
+    ensures { moved_outcome t.now at.seat result ≡ outcome (five_conditions t.now at.seat at.position) (five_effect t.now at.seat) t.now }
 {
-    let number = five_number(t, s, at);
-    answer(t, s, at, number, BY_FIVE)
+    check_five(t, at)?;
+    Ok(ended(t, at, BY_FIVE))
 }

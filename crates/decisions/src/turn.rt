@@ -1,79 +1,88 @@
-// What the six decisions in turn share: their conditions, the hand whose turn it is, what the rules permit to it, and a hand put back in its place.
-// Public for the decisions that draw cards (crate draw). `waiting_hand` and `may_take` ask that a hand of the seat waits, as one does behind `turn_number` 0.
-ghost use Rattle.std.specs.Prelude.{◌≡◌, true, false};
-ghost use Rattle.call.specs.Refusal.{first};
-ghost use Rattle.answer.specs.Moved.{Named};
-ghost use Rattle.decisions_spec.specs.Place.{place_of, with_place};
-ghost use Rattle.decisions_spec.specs.Turn.{turn_conditions};
-ghost use Rattle.table.specs.Seat.{hands as hands_of};
+// What the six decisions in turn share: their conditions, the hand whose turn it is with what the rules ask of it, and a hand put back in its place.
+// Public for the decisions that draw cards (crate draw). `waiting_hand` and `hand_in_turn` ask that a hand of the seat waits, as one does behind `check_turn`.
+ghost use Rattle.std.specs.Prelude.{◌≡◌, ◌<◌, true, length};
+ghost use Rattle.call.specs.Refusal.{number_in, first};
 ghost use Rattle.rules.specs.Turn.{seat_waits, waiting_place};
-ghost use Rattle.decisions.specs.MayTake.{may_take_by};
-ghost use Rattle.table.specs.Broken.{broken};
+ghost use Rattle.table.specs.Seat.{hands as hands_of};
+ghost use Rattle.table.specs.Table.{seat_at, up as up_of};
+ghost use Rattle.decisions_spec.specs.Place.{place_of, with_place};
+ghost use Rattle.decisions_spec.specs.Turn.{turn_conditions, waiting_place_of, waiting_hand_of};
+ghost use Rattle.decisions.specs.Aids.InTurn.{InTurn};
 
-use answer::conditions::guest_number;
+use answer::conditions::check_guest;
 use call::At;
-use call::refusal::asked;
+use call::refusal::{Refusal, first_refusal};
 use options::Options;
-use rules::leaving::{permits_even, permits_five};
-use rules::permits::{permits_double, permits_draw};
-use rules::seat_hand::{BY_DOUBLE, BY_EVEN, BY_FIVE, SeatHand, used};
+use rules::seat_hand::{SeatHand, used};
 use rules::turn::waiting_place;
-use state::round::is_dealt;
+use state::round::{is_dealt, up};
 use state::seat::{decider, guest_money};
 use state::turn::seat_in_turn;
-use table::{Seat, Table};
+use table::Seat;
+use table::whole::Whole;
 
-// It is handed the seat, where there is one. Behind the conditions of every call of a guest: 10 no stake, 11 not that seat's turn, 23 not the deciding guest.
-pub fn turn_number(t: Table, s: Seat, at: At) -> u8
-    requires { (broken t ≡ false) × Named t at.seat s }
-    ensures { result ≡ first (turn_conditions t at.seat at.position) }
+// Why a decision in turn is refused, whatever it asks behind: the conditions of every call of a guest, then 10 no stake, 11 not that seat's turn, 23 not the deciding
+// guest.
+pub fn check_turn(t: &Whole, at: At) -> Result<(), Refusal>
+    ensures { number_in result ≡ first (turn_conditions t.now at.seat at.position) }
 {
-    let o = t.options;
-    let early = guest_number(5, !is_dealt(t), o.seats, at);
-    if early != 0 {
-        return early;
-    }
-    let j = at.seat as usize;
+    let table = t.table();
+    check_guest(Refusal::NoRound, !is_dealt(*table), table.options.seats, at)?;
+    let s = *t.seat(at.seat);
     let money = guest_money(s, at.position);
-    asked(
-        10,
-        !(0 < money.stake),
-        asked(
-            11,
-            seat_in_turn(t) != j,
-            asked(23, decider(o, s) != at.position, 0),
+    first_refusal(&[
+        (Refusal::NoStake, !(0 < money.stake)),
+        (
+            Refusal::NotInTurn,
+            seat_in_turn(*table) != usize::from(at.seat),
         ),
-    )
+        (
+            Refusal::NotDeciding,
+            decider(table.options, s) != at.position,
+        ),
+    ])
+}
+
+// A hand whose turn it is, with what the rules ask of it: the up card, its seat's number of hands, and its place among them.
+#[derive(Clone, Copy)]
+pub struct HandInTurn {
+    pub up: u8,
+    pub many: usize,
+    pub place: usize,
+    pub hand: SeatHand,
 }
 
 // The first waiting hand of a seat that has one.
-pub fn waiting_hand(o: Options, up: u8, s: Seat) -> SeatHand
+pub fn waiting_hand(o: Options, up: u8, s: Seat) -> HandInTurn
     requires { seat_waits o up (hands_of s) ≡ true }
-    ensures { result ≡ place_of s (waiting_place o up (hands_of s)) }
+    ensures up { result.up ≡ up }
+    ensures many { result.many ≡ length (hands_of s) }
+    ensures place { result.place ≡ waiting_place o up (hands_of s) }
+    ensures four { result.place < 4 }
+    ensures hand { result.hand ≡ place_of s (waiting_place o up (hands_of s)) }
 {
     let hands = s.hands;
-    let p = waiting_place(o, up, hands);
-    hands.places[p]
+    let place = waiting_place(o, up, hands);
+    HandInTurn {
+        up,
+        many: used(hands),
+        place,
+        hand: hands.places[place],
+    }
 }
 
-// Whether the rules permit to the first waiting hand the decision behind which the hand has this code: even, five or double, which end it, else a draw.
-pub fn may_take(o: Options, up: u8, s: Seat, code: u8) -> bool
-    requires { seat_waits o up (hands_of s) ≡ true }
-    ensures { result ≡ may_take_by code o up s }
+// That of the seat whose turn has come.
+pub fn hand_in_turn(t: &Whole, at: At) -> HandInTurn
+    requires { InTurn t.now at.seat }
+    ensures up { result.up ≡ up_of t.now }
+    ensures many { result.many ≡ length (hands_of (seat_at t.now at.seat)) }
+    ensures place { result.place ≡ waiting_place_of t.now at.seat }
+    ensures four { result.place < 4 }
+    ensures hand { result.hand ≡ waiting_hand_of t.now at.seat }
 {
-    let hands = s.hands;
-    let many = used(hands);
-    let h = waiting_hand(o, up, s);
-    if code == BY_EVEN {
-        return permits_even(o, up, many, h);
-    }
-    if code == BY_FIVE {
-        return permits_five(o, up, many, h);
-    }
-    if code == BY_DOUBLE {
-        return permits_double(o, up, many, h);
-    }
-    permits_draw(o, up, many, h)
+    let s = *t.seat(at.seat);
+    let t = t.table();
+    waiting_hand(t.options, up(*t), s)
 }
 
 // The seat with that hand in place p; the seat itself where it has no such place.
@@ -83,9 +92,7 @@ pub fn with_place(s: Seat, p: usize, h: SeatHand) -> Seat
     if 4 <= p {
         return s;
     }
-    let mut hands = s.hands;
-    hands.places[p] = h;
     let mut next = s;
-    next.hands = hands;
+    next.hands.places[p] = h;
     next
 }

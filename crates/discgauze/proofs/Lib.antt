@@ -1,3 +1,2 @@
--- What the proofs of the code cite: a kind that is none; a call of a file by its numbers.
+-- What the proofs of the code cite: a kind that is none.
 pub mod Unknown
-pub mod Numbers

@@ -14,9 +14,7 @@ fn faces_of(left: &[u8]) -> [u8; 52]
     ensures { result ≡ left.now }
 {
     let mut faces = [0u8; 52];
-    for i in 0usize..52 {
-        faces[i] = left[i];
-    }
+    faces.copy_from_slice(left);
     faces
 }
 

@@ -7,33 +7,19 @@ ghost use Rattle.cashier_spec.specs.Opening.{open_conditions, open_table};
 ghost use Rattle.discgauze.specs.Calls.{reply_of, step_by};
 
 use crate::calls::discgauze_stepped;
-use answer::outcome::Outcome;
+use answer::outcome::outcome_in;
 use answer::reply::Answer;
 use call::pay_line::LINES;
 use cashier::opening::opening;
 use options::Options;
 use table::Table;
 
-// An opening that is refused gives the table that was there.
-fn opened_over(table: Table, options: Options, order: &[u8]) -> Outcome
-    ensures { result ≡ outcome (open_conditions options order.now) (open_table options order.now) table }
-{
-    let opened = opening(options, order);
-    if opened.number != 0 {
-        return Outcome {
-            number: opened.number,
-            table,
-        };
-    }
-    opened
-}
-
 // Opens a table: the number, 0 where it is accepted.
 #[unsafe(no_mangle)]
 pub extern "C" fn discgauze_open(table: &mut Table, options: Options, order: &[u8]) -> u8
     ensures { make_outcome result table.new ≡ outcome (open_conditions options order.now) (open_table options order.now) table.old }
 {
-    let r = opened_over(*table, options, order);
+    let r = outcome_in(table, opening(options, order));
     *table = r.table;
     r.number
 }

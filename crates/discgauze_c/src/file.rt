@@ -5,13 +5,13 @@ ghost use Rattle.file_spec.specs.Number.{file_number};
 ghost use Rattle.file_spec.specs.Handed.{file_options};
 ghost use Rattle.file_spec.specs.Reader.{first_place, handed_at};
 ghost use Rattle.file_spec.specs.Writer.{begun, ended};
-ghost use Rattle.file_writer.specs.Writer.{calls_of, last_of, Gives};
+ghost use Rattle.file_writer.specs.Writer.{calls_of};
 ghost use Rattle.replaying.specs.Playing.{Opened};
-ghost use Rattle.discgauze.specs.File.{file_call_of, file_call_by, added_by};
+ghost use Rattle.discgauze.specs.File.{file_call_of, file_call_by, added_by, last_of, Gives};
 
 use answer::outcome::Outcome;
-use discgauze::file::FileCall;
-use file_writer::writer::{Last, Writer, Written};
+use discgauze::file::{FileCall, Last, Written};
+use file_writer::writer::Writer;
 use options::Options;
 
 // The number of a file: 0, 24, 25 or 26.

@@ -37,10 +37,9 @@ fn no_hand() -> HandShown
 fn hand_values(stake: u32, h: SeatHand) -> HandShown
     ensures { result ≡ hand_values stake h }
 {
-    let hand = h.hand;
-    let score = hand_score(hand);
+    let score = hand_score(h.hand);
     HandShown {
-        hand,
+        hand: h.hand,
         total: score.total,
         soft: score.soft,
         wager: wager(stake, h),
@@ -53,13 +52,10 @@ fn hand_values(stake: u32, h: SeatHand) -> HandShown
 fn shown_place(s: Seat, place: usize) -> HandShown
     ensures { result ≡ place_shown s place }
 {
-    let money = s.money;
-    let hands = s.hands;
-    if used(hands) <= place {
+    if used(s.hands) <= place {
         return no_hand();
     }
-    let h = hands.places[place];
-    hand_values(money.stake, h)
+    hand_values(s.money.stake, s.hands.places[place])
 }
 
 // With the wager of the guest in that position.

@@ -30,7 +30,7 @@ pub struct TableShown {
     pub bank: Hand,
 }
 
-// The seat and place whose turn it is, and the position of the guest who decides (request 2.8); all 0 where it is nobody's.
+// The seat and place whose turn it is, and the position of the guest who decides (request 2.8); all 0 where it is nobody's. A flag and no Option: C reads it.
 #[repr(C)]
 #[derive(Clone, Copy)]
 pub struct TurnShown {
@@ -71,15 +71,13 @@ pub fn shown_table(t: Table) -> TableShown
         return no_table();
     }
     let sums = table_sums(t);
-    let options = t.options;
-    let shoe = t.shoe;
     TableShown {
-        options,
+        options: t.options,
         tray: t.tray,
         layout: sums.laid,
         purses: sums.purses,
         left: cards_left(t),
-        discards: shoe.discarded,
+        discards: t.shoe.discarded,
         bank: shown_bank(t),
     }
 }

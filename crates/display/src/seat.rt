@@ -26,17 +26,15 @@ pub struct SeatShown {
 fn seat_values(o: Options, s: Seat) -> SeatShown
     ensures { result ≡ seat_values o s }
 {
-    let money = s.money;
-    let sides = money.sides;
-    let hands = s.hands;
+    let sides = s.money.sides;
     SeatShown {
-        purse: money.purse,
-        stake: money.stake,
-        insurance: money.insurance,
+        purse: s.money.purse,
+        stake: s.money.stake,
+        insurance: s.money.insurance,
         sides,
         layout: laid(s),
         prizes: prizes(o, s),
-        hands: used(hands),
+        hands: used(s.hands),
     }
 }
 
@@ -47,8 +45,7 @@ pub(crate) fn guest_or_empty(t: Table, seat: u8, position: u8) -> Seat
     if broken(t) {
         return empty_seat();
     }
-    let o = t.options;
-    if o.seats <= seat {
+    if t.options.seats <= seat {
         return empty_seat();
     }
     if 3 <= position {
@@ -60,6 +57,5 @@ pub(crate) fn guest_or_empty(t: Table, seat: u8, position: u8) -> Seat
 pub fn shown_seat(t: Table, seat: u8, position: u8) -> SeatShown
     ensures { result ≡ seat_shown t seat position }
 {
-    let o = t.options;
-    seat_values(o, guest_or_empty(t, seat, position))
+    seat_values(t.options, guest_or_empty(t, seat, position))
 }

@@ -1,12 +1,9 @@
 // What draw and double share: the next card of the shoe goes to the hand whose turn it is, each guest of the seat lays so many stakes more,
 // and the prizes are paid in the call that makes them (document 01, "The seventeen calls", the guest, and "Payment").
-ghost use Rattle.std.specs.Prelude.{◌≡◌, true, ◌≤◌, ltb};
-ghost use Rattle.rules.specs.Turn.{seat_waits, waiting_place};
+ghost use Rattle.std.specs.Prelude.{◌≡◌, ◌≤◌, ltb};
 ghost use Rattle.table.specs.Money.{most_money};
-ghost use Rattle.table.specs.Seat.{hands as hands_of, over_guests, stake};
-ghost use Rattle.table.specs.Table.{seat_at};
+ghost use Rattle.table.specs.Seat.{over_guests, stake};
 ghost use Rattle.answer.specs.Moved.{moved_table};
-ghost use Rattle.decisions_spec.specs.Place.{place_of};
 ghost use Rattle.decisions_spec.specs.Card.{purse_short, card_money, card_effect};
 ghost use Rattle.decisions_spec.specs.Turn.{waiting_place_of};
 ghost use Rattle.payment.specs.Prize.{prize as prize_of};
@@ -17,26 +14,22 @@ ghost use Rattle.draw.specs.Aids.Drawable.{Affords, AllAfford, one_prize_each, D
 use answer::moved::Moved;
 use call::At;
 use cards::hand::with_card;
-use decisions::turn::{waiting_hand, with_place};
+use decisions::turn::{hand_in_turn, with_place};
 use options::Options;
 use payment::prize::prize;
 use rules::seat_hand::SeatHand;
-use rules::turn::waiting_place;
 use shoe::card_ahead;
-use state::round::up;
 use state::seat::guest_money;
-use table::{Money, Seat, Table};
+use table::whole::Whole;
+use table::{Money, Seat};
 
-// The hand whose turn it is with one card more, ended by this code.
-fn grown(o: Options, card: u8, s: Seat, next: u8, code: u8) -> SeatHand
-    requires { seat_waits o card (hands_of s) ≡ true }
-    ensures { result ≡ grown_by (place_of s (waiting_place o card (hands_of s))) next code }
+// The hand with one card more, ended by this code.
+// The code is the byte that the hand then holds.
+fn grown(h: SeatHand, next: u8, code: u8) -> SeatHand
+    ensures { result ≡ grown_by h next code }
 {
-    let h = waiting_hand(o, card, s);
-    let old = h.hand;
-    let hand = with_card(old, next);
     SeatHand {
-        hand,
+        hand: with_card(h.hand, next),
         origin: h.origin,
         ended: code,
     }
@@ -78,42 +71,37 @@ fn all_won(o: Options, s: Seat, h: SeatHand) -> u64
     prize(o, seated.stake, h) + prize(o, one.stake, h) + prize(o, other.stake, h)
 }
 
-// The seat with that hand in its place, and its guests' money so changed.
-fn grown_seat(o: Options, card: u8, s: Seat, h: SeatHand, times: u64) -> Seat
+// The seat with that hand in its place p, and its guests' money so changed.
+fn grown_seat(o: Options, p: usize, s: Seat, h: SeatHand, times: u64) -> Seat
     requires { AllAfford times s }
-    ensures { result ≡ grown_seat o card s h times }
+    ensures { result ≡ grown_seat o p s h times }
 {
-    let hands = s.hands;
-    let p = waiting_place(o, card, hands);
     let seated = card_money(o, times, h, s.money);
     let one = card_money(o, times, h, s.others[0]);
     let other = card_money(o, times, h, s.others[1]);
-    let others = [one, other];
     let mut next = s;
     next.money = seated;
-    next.others = others;
+    next.others = [one, other];
     with_place(next, p, h)
 }
 
 // Each guest of the seat lays so many more stakes, its hand takes the next card and has this code, and the prizes of that hand go from tray to purses.
-pub(crate) fn with_next_card(t: Table, s: Seat, at: At, times: u64, code: u8) -> Moved
-    requires { (Drawable t at.seat times) × (s ≡ seat_at t at.seat) }
-    ensures { (result.number ≡ 0) × (moved_table t at.seat result ≡ card_effect times code t at.seat) × (result.hand ≡ waiting_place_of t at.seat) }
+pub(crate) fn with_next_card(t: &Whole, at: At, times: u64, code: u8) -> Moved
+    requires { Drawable t.now at.seat times }
+    ensures table { moved_table t.now at.seat result ≡ card_effect times code t.now at.seat }
+    ensures hand { result.hand ≡ waiting_place_of t.now at.seat }
 {
-    let o = t.options;
-    let shoe = t.shoe;
-    let order = shoe.order;
-    let hands = s.hands;
-    let card = up(t);
-    let hand = waiting_place(o, card, hands);
-    let h = grown(o, card, s, card_ahead(&order[..], shoe.drawn, 0), code);
+    let s = *t.seat(at.seat);
+    let turn = hand_in_turn(t, at);
+    let table = t.table();
+    let o = table.options;
+    let next = card_ahead(&table.shoe.order, table.shoe.drawn, 0);
+    let h = grown(turn.hand, next, code);
     let won = all_won(o, s, h);
-    let seat = grown_seat(o, card, s, h, times);
     Moved {
-        number: 0,
-        tray: t.tray - won,
-        seat,
-        drawn: shoe.drawn + 1,
-        hand,
+        tray: table.tray - won,
+        seat: grown_seat(o, turn.place, s, h, times),
+        drawn: table.shoe.drawn + 1,
+        hand: turn.place,
     }
 }

@@ -1,30 +1,27 @@
 // split: the hand whose turn it is, a pair, becomes two, and each guest's stake is laid again for the new one (document 01, "The seventeen calls", the guest;
 // article 16).
-ghost use Rattle.std.specs.Prelude.{◌≡◌, false, ◌<◌, ◌≤◌, get_or};
+ghost use Rattle.std.specs.Prelude.{◌≡◌, ◌<◌, ◌≤◌, get_or, IfOk};
 ghost use Rattle.cards.specs.Hand.{cards_of};
-ghost use Rattle.call.specs.Refusal.{first as first_of};
-ghost use Rattle.table.specs.Table.{seat_at};
-ghost use Rattle.answer.specs.Moved.{Named, moved_table, moved_outcome};
+ghost use Rattle.call.specs.Refusal.{number_in, first as first_of};
+ghost use Rattle.answer.specs.Moved.{moved_table, moved_outcome};
 ghost use Rattle.answer.specs.Outcome.{outcome};
 ghost use Rattle.decisions_spec.specs.Split.{split_conditions, split_effect, split_hand, split_places, split_first, staked_again};
-ghost use Rattle.draw.specs.Aids.Splits.{split_seat, Pays, Splits};
 ghost use Rattle.decisions_spec.specs.Turn.{waiting_place_of};
-ghost use Rattle.table.specs.Broken.{broken};
+ghost use Rattle.draw.specs.Aids.Splits.{two_for, Pays, Splits};
 
 use crate::card::purse_short;
-use answer::moved::{Moved, not_moved};
+use answer::moved::Moved;
 use call::At;
-use call::refusal::asked;
+use call::refusal::{Refusal, first_refusal};
 use cards::card::is_ace;
 use cards::hand::{Hand, empty_hand, with_card};
 use cards::pair::is_pair;
-use decisions::turn::{turn_number, waiting_hand};
-use options::Options;
-use rules::seat_hand::{NOT_ENDED, SPLIT, SPLIT_ACES, SeatHand, SeatHands, used};
-use rules::turn::waiting_place;
+use decisions::turn::{check_turn, hand_in_turn};
+use rules::seat_hand::{NOT_ENDED, SPLIT, SPLIT_ACES, SeatHand, SeatHands};
 use shoe::card_ahead;
-use state::round::{cards_left, up};
-use table::{Money, Seat, Table};
+use state::round::cards_left;
+use table::whole::Whole;
+use table::{Money, Seat};
 
 // A hand of a kept card and a drawn one.
 fn split_hand(kept: u8, card: u8) -> SeatHand
@@ -100,90 +97,70 @@ fn staked_again(m: Money) -> Money
     next
 }
 
-// The seat with the hand whose turn it is split, each guest's stake laid for the new hand.
-fn split_seat(o: Options, card: u8, s: Seat, first: u8, second: u8) -> Seat
-    requires { Pays o card s }
-    ensures { result ≡ split_seat o card s first second }
+// The seat with the hand h of its place p split, each guest's stake laid for the new hand.
+fn split_seat(s: Seat, p: usize, h: SeatHand, first: u8, second: u8) -> Seat
+    requires place { p < 4 }
+    requires pays { Pays s }
+    ensures { result ≡ two_for s p h first second }
 {
-    let hands = s.hands;
-    let old = hands.places;
-    let p = waiting_place(o, card, hands);
-    let h = waiting_hand(o, card, s);
-    let pair = h.hand;
-    let parent = split_hand(kept_card(pair, 0), first);
-    let new = split_hand(kept_card(pair, 1), second);
-    let places = split_places(old, p, parent, new);
-    let many = hands.many + 1;
-    let more = SeatHands { places, many };
+    let parent = split_hand(kept_card(h.hand, 0), first);
+    let new = split_hand(kept_card(h.hand, 1), second);
+    let places = split_places(s.hands.places, p, parent, new);
     let seated = staked_again(s.money);
     let one = staked_again(s.others[0]);
     let other = staked_again(s.others[1]);
-    let others = [one, other];
-    let mut next = s;
-    next.money = seated;
-    next.others = others;
-    next.hands = more;
-    let kept = first_of(s, first);
-    next.first = kept;
-    next
+    Seat {
+        money: seated,
+        others: [one, other],
+        hands: SeatHands {
+            places,
+            many: s.hands.many + 1,
+        },
+        first: first_of(s, first),
+    }
 }
 
 // What the split of that seat moves: two cards are drawn, the first to the parent.
-fn split_moved(t: Table, s: Seat, at: At) -> Moved
-    requires { (Splits t at.seat) × (s ≡ seat_at t at.seat) }
-    ensures { (result.number ≡ 0) × (moved_table t at.seat result ≡ split_effect t at.seat) × (result.hand ≡ waiting_place_of t at.seat) }
+fn split_moved(t: &Whole, at: At) -> Moved
+    requires { Splits t.now at.seat }
+    ensures table { moved_table t.now at.seat result ≡ split_effect t.now at.seat }
+    ensures hand { result.hand ≡ waiting_place_of t.now at.seat }
 {
-    let o = t.options;
-    let card = up(t);
-    let shoe = t.shoe;
-    let order = shoe.order;
-    let hands = s.hands;
-    let hand = waiting_place(o, card, hands);
-    let first = card_ahead(&order[..], shoe.drawn, 0);
-    let second = card_ahead(&order[..], shoe.drawn, 1);
-    let seat = split_seat(o, card, s, first, second);
+    let s = *t.seat(at.seat);
+    let turn = hand_in_turn(t, at);
+    let table = t.table();
+    let first = card_ahead(&table.shoe.order, table.shoe.drawn, 0);
+    let second = card_ahead(&table.shoe.order, table.shoe.drawn, 1);
     Moved {
-        number: 0,
-        tray: t.tray,
-        seat,
-        drawn: shoe.drawn + 2,
-        hand,
+        tray: table.tray,
+        seat: split_seat(s, turn.place, turn.hand, first, second),
+        drawn: table.shoe.drawn + 2,
+        hand: turn.place,
     }
 }
 
 // Behind the conditions in turn: 19 no pair, 20 the seat's hands are used up, 15 a guest's purse is below the stake, 18 fewer than two cards are left.
-fn split_number(t: Table, s: Seat, at: At) -> u8
-    requires { (broken t ≡ false) × Named t at.seat s }
-    ensures { result ≡ first_of (split_conditions t at.seat at.position) }
+fn check_split(t: &Whole, at: At) -> Result<(), Refusal>
+    ensures { number_in result ≡ first_of (split_conditions t.now at.seat at.position) }
 {
-    let number = turn_number(t, s, at);
-    if number != 0 {
-        return number;
-    }
-    let o = t.options;
-    let hands = s.hands;
-    let h = waiting_hand(o, up(t), s);
-    let pair = h.hand;
-    let most = o.hands as usize;
-    asked(
-        19,
-        !is_pair(pair),
-        asked(
-            20,
-            most <= used(hands),
-            asked(15, purse_short(s), asked(18, cards_left(t) < 2, 0)),
+    check_turn(t, at)?;
+    let turn = hand_in_turn(t, at);
+    let table = t.table();
+    first_refusal(&[
+        (Refusal::NoPair, !is_pair(turn.hand.hand)),
+        (
+            Refusal::HandsUsedUp,
+            usize::from(table.options.hands) <= turn.many,
         ),
-    )
+        (Refusal::ShortPurse, purse_short(*t.seat(at.seat))),
+        (Refusal::NoCards, cards_left(*table) < 2),
+    ])
 }
 
-pub fn split(t: Table, s: Seat, at: At) -> Moved
-    requires { (broken t ≡ false) × Named t at.seat s }
-    ensures same { moved_outcome t at.seat result ≡ outcome (split_conditions t at.seat at.position) (split_effect t at.seat) t }
-    ensures shown { result.number ≡ 0 → (at.seat < 9) × (result.hand ≡ waiting_place_of t at.seat) }
+pub fn split(t: &Whole, at: At) -> Result<Moved, Refusal>
+    ensures same { moved_outcome t.now at.seat result ≡ outcome (split_conditions t.now at.seat at.position) (split_effect t.now at.seat) t.now }
+    ensures shown { IfOk result (λ m. (at.seat < 9) × (m.hand ≡ waiting_place_of t.now at.seat)) }
 {
-    let number = split_number(t, s, at);
-    if number != 0 {
-        return not_moved(number, s);
-    }
-    split_moved(t, s, at)
+    check_split(t, at)?;
+    Ok(split_moved(t, at))
 }

@@ -6,4 +6,3 @@ pub mod LowestFirst
 -- What a step and its parts share.
 pub mod ShownDeal
 pub mod Moved
-pub mod Seatless

@@ -1,3 +1,2 @@
 -- What only proofs and the contracts of private functions cite: nothing here has to be believed.
 pub mod MovedScores
-pub mod Whole

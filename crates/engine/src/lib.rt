@@ -2,107 +2,71 @@
 // two arrays for the names and nets of the pay lines, into which only an accepted close writes.
 #![tactic(auto)]
 
-mod named;
+mod replies;
 mod scores;
-mod whole;
 
-ghost use Rattle.std.specs.Prelude.{◌≡◌, false};
-ghost use Rattle.table.specs.Broken.{broken as broken_by};
+ghost use Rattle.std.specs.Prelude.{◌≡◌};
 ghost use Rattle.answer.specs.Reply.{given_by, given_of};
 ghost use Rattle.engine.specs.Step.{step as step_by};
 
-use crate::named::{place_of, seat_of};
-use crate::scores::scores_of;
-use crate::whole::{is_whole, whole_reply};
-use answer::moved::not_moved;
-use answer::reply::{Answer, Reply};
+use crate::replies::{card_reply, changed_reply, dealt, moved_reply, split_reply};
+use answer::outcome::Outcome;
+use answer::reply::{Reply, plain_reply};
 use broken::broken;
 use call::Call;
 use call::pay_line::LINES;
-use cards::hand::empty_hand;
+use call::refusal::Refusal;
+use cashier::buy::buy;
+use cashier::cash::cash;
+use cashier::credit::credit;
+use cashier::fill::fill;
+use cashier::load::load;
+use cashier::side::side;
+use cashier::stake::stake;
+use close::void::void;
+use close::{close, closed_reply};
+use decisions::even::even;
+use decisions::five::five;
+use decisions::insure::insure;
+use decisions::stand::stand;
+use decisions::surrender::surrender;
+use draw::double::double;
+use draw::draw::draw;
+use draw::split::split;
 use table::Table;
+use table::whole::Whole;
 
-// A step, told whether the table is broken. A call of one seat gets the seat and says what it moves; that goes into the one copy of the table, which becomes the
-// reply's. All calls read this copy too, which the compiler keeps whole since its seats are read by number. There is one way out, so that the reply's table is no
-// copy of its own.
-fn stepped(
-    damaged: bool,
-    t: Table,
+// A step on a table that is not broken, as every table is that an accepted call left.
+// Here and below two lent arrays: C lends them so, and a struct of the two would have to be made and taken apart around every step.
+pub fn step_whole(
+    t: &Whole,
     c: Call,
     order: &[u8],
     names: &mut [u32; LINES],
     nets: &mut [i64; LINES],
 ) -> Reply
-    requires { damaged ≡ broken_by t }
-    ensures { given_of result names.new nets.new ≡ given_by (step_by t c order.now) names.old nets.old }
+    ensures { given_of result names.new nets.new ≡ given_by (step_by t.now c order.now) names.old nets.old }
 {
-    let mut next = t;
-    let seat = seat_of(c);
-    let i = place_of(seat);
-    let s = next.seats[i];
-    let m = if damaged {
-        not_moved(1, s)
-    } else {
-        match c {
-            Call::Buy(at, n) => cashier::buy::buy(next, s, at, n),
-            Call::Cash(at, n) => cashier::cash::cash(next, s, at, n),
-            Call::Stake(at, n) => cashier::stake::stake(next, s, at, n),
-            Call::Insure(at, n) => decisions::insure::insure(next, s, at, n),
-            Call::Stand(at) => decisions::stand::stand(next, s, at),
-            Call::Draw(at) => draw::draw::draw(next, s, at),
-            Call::Double(at) => draw::double::double(next, s, at),
-            Call::Split(at) => draw::split::split(next, s, at),
-            Call::Surrender(at) => decisions::surrender::surrender(next, s, at),
-            Call::Even(at) => decisions::even::even(next, s, at),
-            Call::Five(at) => decisions::five::five(next, s, at),
-            Call::Side(at, kind, n) => cashier::side::side(next, s, at, kind, n),
-            _ => not_moved(1, s),
-        }
-    };
-    if m.number == 0 {
-        next.tray = m.tray;
-        next.shoe.drawn = m.drawn;
-        if seat < 9 {
-            let moved = m.seat;
-            next.seats[i] = moved;
-        }
+    match c {
+        Call::Fill(n) => changed_reply(t, fill(t, n)),
+        Call::Credit(n) => changed_reply(t, credit(t, n)),
+        Call::Buy(at, n) => moved_reply(t, at, buy(t, at, n)),
+        Call::Cash(at, n) => moved_reply(t, at, cash(t, at, n)),
+        Call::Stake(at, n) => moved_reply(t, at, stake(t, at, n)),
+        Call::Deal => dealt(t),
+        Call::Insure(at, n) => moved_reply(t, at, insure(t, at, n)),
+        Call::Stand(at) => moved_reply(t, at, stand(t, at)),
+        Call::Draw(at) => card_reply(t, at, draw(t, at)),
+        Call::Double(at) => card_reply(t, at, double(t, at)),
+        Call::Split(at) => split_reply(t, at, split(t, at)),
+        Call::Surrender(at) => moved_reply(t, at, surrender(t, at)),
+        Call::Even(at) => moved_reply(t, at, even(t, at)),
+        Call::Five(at) => moved_reply(t, at, five(t, at)),
+        Call::Close => closed_reply(t.table(), close(t, names, nets)),
+        Call::Void => changed_reply(t, void(t)),
+        Call::Load => changed_reply(t, load(t, order)),
+        Call::Side(at, kind, n) => moved_reply(t, at, side(t, at, kind, n)),
     }
-    let bank = empty_hand();
-    let scores = scores_of(c, m);
-    let mut answer = Answer {
-        number: m.number,
-        bank,
-        lines: 0,
-        scores,
-    };
-    if !damaged & is_whole(c) {
-        let w = match c {
-            Call::Close => whole_reply(next, c, order, names, nets),
-            _ => whole_reply(next, c, order, names, nets),
-        };
-        let shown = w.answer;
-        let after = w.table;
-        answer = shown;
-        next = after;
-    }
-    Reply {
-        answer,
-        table: next,
-    }
-}
-
-// A step on a table that is known not to be broken, as every table is that an accepted call left. For crates above that go on from such a table.
-pub fn step_checked(
-    t: Table,
-    c: Call,
-    order: &[u8],
-    names: &mut [u32; LINES],
-    nets: &mut [i64; LINES],
-) -> Reply
-    requires { broken_by t ≡ false }
-    ensures { given_of result names.new nets.new ≡ given_by (step_by t c order.now) names.old nets.old }
-{
-    stepped(false, t, c, order, names, nets)
 }
 
 // A step on any table: 1 is asked here, once.
@@ -115,6 +79,11 @@ pub fn step(
 ) -> Reply
     ensures { given_of result names.new nets.new ≡ given_by (step_by t c order.now) names.old nets.old }
 {
-    let damaged = broken(t);
-    stepped(damaged, t, c, order, names, nets)
+    if broken(t) {
+        return plain_reply(Outcome {
+            number: Refusal::Broken.number(),
+            table: t,
+        });
+    }
+    step_whole(&Whole::new(t), c, order, names, nets)
 }

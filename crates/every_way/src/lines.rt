@@ -1,105 +1,84 @@
 // What the program writes.
-use stage::write::{counted, figure, net, words};
-use std::io;
+use stage::shown::Net;
 use std::io::Write;
+use std::{fmt, io};
 use table::Table;
 use ways::{Way, way_at, ways_count};
 
 pub(crate) fn heading<W: Write>(out: &mut W, text: &[u8]) -> io::Result<()> {
-    words(out, text)?;
-    words(out, b"\n")
+    out.write_all(text)?;
+    writeln!(out)
 }
 
 // A call that the script has wrong.
+// The number is what is printed.
 pub(crate) fn refused<W: Write>(out: &mut W, number: u8) -> io::Result<()> {
-    if number != 0 {
-        counted(out, b"  call refused", number as u64)?;
-        return words(out, b"\n");
+    if number == 0 {
+        return Ok(());
     }
-    Ok(())
+    writeln!(out, "  call refused {number}")
 }
 
-fn decision<W: Write>(out: &mut W, kind: u8) -> io::Result<()> {
+// A decision, by the kind that the engine gives it.
+// The kind is a byte of the way, which C reads.
+fn decision(kind: u8) -> &'static str {
     match kind {
-        8 => words(out, b" stand"),
-        9 => words(out, b" draw"),
-        10 => words(out, b" double"),
-        11 => words(out, b" split"),
-        13 => words(out, b" even"),
-        _ => words(out, b" five"),
+        8 => "stand",
+        9 => "draw",
+        10 => "double",
+        11 => "split",
+        13 => "even",
+        _ => "five",
     }
 }
 
-fn decisions<W: Write>(out: &mut W, w: Way) -> io::Result<()> {
-    let n = w.length;
-    if n == 0 {
-        words(out, b" nothing to decide")?;
-    }
-    for i in 0usize..8 {
-        if i < n {
-            decision(out, w.decisions[i])?;
+// The decisions of a way, with its sum.
+#[derive(Clone, Copy)]
+struct Decisions(Way);
+
+impl fmt::Display for Decisions {
+    fn fmt<W: fmt::Write>(&self, f: &mut fmt::Formatter<W>) -> fmt::Result {
+        let way = self.0;
+        if way.length == 0 {
+            write!(f, "nothing to decide ")?;
         }
+        for kind in way.decisions.iter().take(way.length) {
+            write!(f, "{} ", decision(*kind))?;
+        }
+        write!(f, "{}", Net(way.sum))
     }
-    Ok(())
-}
-
-// The list at a place, with its sum.
-fn way<W: Write>(out: &mut W, place: usize, w: Way) -> io::Result<()> {
-    words(out, b"  ")?;
-    figure(out, place as u64)?;
-    decisions(out, w)?;
-    net(out, w.sum)?;
-    words(out, b"\n")
 }
 
 // The number of ways, or why there is none.
 pub(crate) fn counted_ways<W: Write>(out: &mut W, t: Table) -> io::Result<usize> {
-    let all = ways_count(t);
-    if all.number != 0 {
-        counted(out, b"  no count", all.number as u64)?;
-        words(out, b"\n")?;
+    let ways = ways_count(t);
+    // The number, as C reads it: 0 is accepted.
+    if ways.number != 0 {
+        writeln!(out, "  no count {}", ways.number)?;
         return Ok(0);
     }
-    counted(out, b"  ways", all.count as u64)?;
-    words(out, b"\n")?;
-    Ok(all.count)
+    writeln!(out, "  ways {}", ways.count)?;
+    Ok(ways.count)
 }
 
-fn larger(a: i64, b: i64) -> i64 {
-    if a < b { b } else { a }
-}
-
-fn smaller(a: i64, b: i64) -> i64 {
-    if b < a { b } else { a }
-}
-
-// The sums of all lists, the largest and the smallest of them.
-fn extremes<W: Write>(out: &mut W, best: i64, worst: i64) -> io::Result<()> {
-    words(out, b"  best")?;
-    net(out, best)?;
-    words(out, b" worst")?;
-    net(out, worst)?;
-    words(out, b"\n")
-}
-
-// All lists from the first place on.
+// All ways from the first place on, then the largest and the smallest of their sums.
 fn listed<W: Write>(out: &mut W, t: Table, count: usize) -> io::Result<()> {
     let first = way_at(t, 0);
     let mut best = first.sum;
     let mut worst = first.sum;
-    for place in 0usize..count {
-        let w = way_at(t, place);
-        way(out, place, w)?;
-        best = larger(best, w.sum);
-        worst = smaller(worst, w.sum);
+    // The engine is asked for a way by its place.
+    for place in 0..count {
+        let way = way_at(t, place);
+        writeln!(out, "   {place} {}", Decisions(way))?;
+        best = best.max(way.sum);
+        worst = worst.min(way.sum);
     }
-    extremes(out, best, worst)
+    writeln!(out, "  best {} worst {}", Net(best), Net(worst))
 }
 
 pub(crate) fn every_way<W: Write>(out: &mut W, t: Table) -> io::Result<()> {
-    let count = counted_ways(out, t)?;
-    if count != 0 {
-        return listed(out, t, count);
+    match counted_ways(out, t)? {
+        0 => Ok(()),
+        count => listed(out, t, count),
     }
-    Ok(())
 }

@@ -1,14 +1,13 @@
 -- A part of a list from a place on, and the counts of one face more.
 use mathlib.Core.Path.{◌≡◌, sym, ◌∙◌, ap}
 use mathlib.Core.List.{List, ◌++◌}
-use Prim.Native.Nat.{ℕ, ◌+◌, ◌-◌, ◌≤◌, ◌<◌, min}
+use Prim.Native.Nat.{ℕ, ◌+◌, ◌-◌, ◌≤◌, ◌<◌}
 use native.Mathlib.Numerals.{add-one}
 use native.Mathlib.Omega.{arith}
 use lib.ListN.{length, get_or, take, drop, set, length-take, length-drop}
 use lib.Seq.{take_all, take-suc-set}
 use Rattle.lists.specs.Sum.{count_of}
 use Rattle.lists.proofs.Parts.{part_of_take}
-use Rattle.lists.proofs.Takes.{take_clamped}
 use Rattle.card_count.specs.Aids.Counters.{no_counts, counted_all}
 use Rattle.card_count.proofs.counters.Counts.{counted-append, counted_zeros}
 use Rattle.faces_left.specs.FacesLeft.{counts_below}
@@ -16,10 +15,6 @@ use Rattle.faces_left.specs.FacesLeft.{counts_below}
 pub part : {A : Type 0} (k n : ℕ) (xs : List A) → k ≤ n → take (n - k) (drop k xs) ≡ drop k (take n xs)
 part k n xs h =
     sym (part_of_take (n - k) k n xs (omega arith)) ∙ take_all (n - k) (drop k (take n xs)) (omega (arith, length-drop k (take n xs), length-take n xs))
-
--- the same where a count past the list takes the whole list
-pub part_clamped : {A : Type 0} (k n count : ℕ) (xs : List A) → n ≡ min count (length xs) → k ≤ n → take (n - k) (drop k xs) ≡ drop k (take count xs)
-part_clamped k n count xs clamped h = part k n xs h ∙ ap (drop k) (take_clamped xs count n clamped)
 
 -- a face's count stored behind those of the faces below
 pub face_stored : (cards counts : List ℕ) (face many : ℕ) → face < length counts → take face counts ≡ counts_below cards face → many ≡ count_of face cards

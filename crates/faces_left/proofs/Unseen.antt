@@ -2,7 +2,7 @@
 use mathlib.Core.Path.{◌≡◌, refl, ap}
 use mathlib.Core.Bool.{true, false}
 use mathlib.Core.List.{List, [], ◌∷◌, ◌++◌}
-use Prim.Native.Nat.{ℕ, ◌+◌, ◌*◌, ◌≤◌, ◌<◌, min}
+use Prim.Native.Nat.{ℕ, ◌+◌, ◌*◌, ◌<◌}
 use native.Mathlib.Nat.{not-suc-le-zero}
 use native.Mathlib.Omega.{arith}
 use borrow.Author.Tests.{ltb-true, eqb-true}
@@ -69,7 +69,3 @@ few_left t twenty whole dealt =
       each = λ face h.
           omega (arith, seen_and_left t whole dealt face h, sum-append (is_it face) (table_shoe t) (drop 1 (bank_cards t)), (sound_options t (unbroken t whole)).decks_most);
     }
-
--- the bank has a card
-pub some_held : (t : Table) (n : ℕ) → length t.bank.cards ≡ 20 → n ≡ min t.bank.count 20 → is_dealt t ≡ true → 1 ≤ n
-some_held t n twenty held dealt = omega (arith, ltb-true 0 (length (bank_cards t)) dealt, length-take t.bank.count t.bank.cards)

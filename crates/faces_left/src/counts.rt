@@ -14,8 +14,8 @@ pub(crate) fn counted(first: &[u8], second: &[u8]) -> [u8; 52]
     count(&mut of, first);
     count(&mut of, second);
     let mut counts = [0u8; 52];
-    for face in 0usize..52 {
-        counts[face] = of[face] as u8;
+    for (face, count) in of[..52].iter().enumerate() {
+        counts[face] = *count as u8;
     }
     counts
 }

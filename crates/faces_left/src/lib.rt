@@ -4,17 +4,18 @@
 mod counts;
 
 ghost use Rattle.std.specs.Prelude.{◌≡◌, true, false, replicate};
+ghost use Rattle.call.specs.Refusal.{number_of};
 ghost use Rattle.table.specs.Broken.{broken as is_broken};
 ghost use Rattle.table.specs.Table.{is_dealt};
 ghost use Rattle.faces_left.specs.FacesLeft.{unseen, counts_below, make_faces, faces_left};
 
 use crate::counts::counted;
 use broken::broken;
-use cards::hand::held;
+use call::refusal::Refusal;
 use state::round::{is_dealt, up};
 use table::Table;
 
-// The number, 0 where it is accepted; the up card; and how often each face is left.
+// The number, 0 where it is accepted; the up card; and how often each face is left. A number and no Result: the struct crosses the C interface.
 #[repr(C)]
 #[derive(Clone, Copy)]
 pub struct FacesLeft {
@@ -23,11 +24,11 @@ pub struct FacesLeft {
     pub left: [u8; 52],
 }
 
-fn refused(number: u8) -> FacesLeft
-    ensures { result ≡ make_faces number 0 (replicate 52 0) }
+fn refused(why: Refusal) -> FacesLeft
+    ensures { result ≡ make_faces (number_of why) 0 (replicate 52 0) }
 {
     FacesLeft {
-        number,
+        number: why.number(),
         up: 0,
         left: [0u8; 52],
     }
@@ -38,26 +39,20 @@ fn unseen_counts(t: Table) -> [u8; 52]
     requires { (is_broken t ≡ false) × (is_dealt t ≡ true) }
     ensures { result ≡ counts_below (unseen t) 52 }
 {
-    let options = t.options;
-    let shoe = t.shoe;
-    let order = shoe.order;
-    let drawn = shoe.drawn;
-    let all = 52 * (options.decks as usize);
-    let bank = t.bank;
-    let hand = bank.cards;
-    let n = held(bank);
-    counted(&order[drawn..all], &hand[1..n])
+    let all = 52 * (t.options.decks as usize);
+    counted(&t.shoe.order[t.shoe.drawn..all], &t.bank.held_cards()[1..])
 }
 
 // 1 a broken table, 5 no round is dealt.
+#[tactic(auto, unfolding(crate::specs::FacesLeft::faces_left, call::specs::Refusal::first))]
 pub fn faces_left(t: Table) -> FacesLeft
     ensures { result ≡ faces_left t }
 {
     if broken(t) {
-        return refused(1);
+        return refused(Refusal::Broken);
     }
     if !is_dealt(t) {
-        return refused(5);
+        return refused(Refusal::NoRound);
     }
     let left = unseen_counts(t);
     FacesLeft {

@@ -1,37 +1,37 @@
--- Numbers in little-endian bytes, from their bytes; the weighed sum, one byte more.
-use mathlib.Core.Path.{◌≡◌, sym, ap, ◌∙◌}
+-- Numbers in little-endian bytes, as the library reads them; the weighed sum, one byte more.
+use mathlib.Core.Path.{◌≡◌, refl, sym, ap, ◌∙◌}
 use mathlib.Core.List.{List, [], ◌∷◌, ◌++◌}
-use Prim.Native.Nat.{ℕ, suc, ◌+◌, ◌*◌, ◌≤◌, ◌<◌}
+use Prim.Native.Nat.{ℕ, zero, suc, ◌+◌, ◌*◌, ◌≤◌, ◌<◌}
 use native.Mathlib.Nat.{mul-le-mul}
 use native.Mathlib.Numerals.{add-one}
 use native.Mathlib.Omega.{arith}
 use lib.ListN.{length, take, drop, get_or}
 use lib.Seq.{take-suc, drop-cons, length-take-le}
+use Rattle.std.specs.Int.{w16, w32, w64, from_le_bytes}
 use Rattle.file_spec.specs.Block.{number_of, weighed}
 
--- the first byte from a place on, and those behind it
-part-next : (n at : ℕ) (l : List ℕ) → at < length l → take (suc n) (drop at l) ≡ get_or l at 0 ∷ take n (drop (at + 1) l)
-part-next n at l h = rw (drop-cons l at 0, add-one)
+-- so many bytes from a place on, one by one
+abbrev pub bytes_from : ℕ → ℕ → List ℕ → List ℕ
+bytes_from zero at l = []
+bytes_from (suc n) at l = get_or l at 0 ∷ bytes_from n (at + 1) l
 
-pub number_of-two : (l : List ℕ) (at : ℕ) → at + 2 ≤ length l → number_of (take 2 (drop at l)) ≡ get_or l at 0 + 256 * get_or l (at + 1) 0
+part_is : (n at : ℕ) (l : List ℕ) → at + n ≤ length l → take n (drop at l) ≡ bytes_from n at l
+part_is zero at l h = refl
+part_is (suc n) at l h =
+    let inside : at < length l = omega arith in
+    rw (drop-cons l at 0) (ap (λ (xs : List ℕ). get_or l at 0 ∷ xs) (rw (← add-one) (part_is n (at + 1) l (omega arith))))
+
+pub number_of_2 : (l : List ℕ) (at : ℕ) → at + 2 ≤ length l → number_of (take 2 (drop at l)) ≡ from_le_bytes w16 (bytes_from 2 at l)
 unfolding number_of
-number_of-two l at h = rw (part-next 1 at l (omega arith), part-next 0 (at + 1) l (omega arith)) (omega arith)
+number_of_2 l at h = rw (part_is 2 at l h) (omega arith)
 
--- the number of n + 2 bytes, from the first two and the others
-two_more : (n : ℕ) (l : List ℕ) (at : ℕ) → at + 2 ≤ length l → number_of (take (suc (suc n)) (drop at l)) ≡ number_of (take 2 (drop at l)) + 65536 * number_of (take n (drop (at + 2) l))
+pub number_of_4 : (l : List ℕ) (at : ℕ) → at + 4 ≤ length l → number_of (take 4 (drop at l)) ≡ from_le_bytes w32 (bytes_from 4 at l)
 unfolding number_of
-two_more n l at h =
-    let next : at + 1 + 1 ≡ at + 2 = omega arith in
-    let all = part-next (suc n) at l (omega arith) ∙ ap (λ (xs : List ℕ). get_or l at 0 ∷ xs) (part-next n (at + 1) l (omega arith)) in
-    rw (all, next, number_of-two l at h) (omega arith)
+number_of_4 l at h = rw (part_is 4 at l h) (omega arith)
 
-pub number_of-four : (l : List ℕ) (at : ℕ) → at + 4 ≤ length l → number_of (take 4 (drop at l)) ≡ number_of (take 2 (drop at l)) + 65536 * number_of (take 2 (drop (at + 2) l))
-number_of-four l at h = two_more 2 l at (omega arith)
-
-pub number_of-eight : (l : List ℕ) (at : ℕ) → at + 8 ≤ length l → number_of (take 8 (drop at l)) ≡ number_of (take 4 (drop at l)) + 4294967296 * number_of (take 4 (drop (at + 4) l))
-number_of-eight l at h =
-    let next : at + 2 + 2 ≡ at + 4 = omega arith in
-    omega (arith, two_more 6 l at (omega arith), two_more 4 l (at + 2) (omega arith), number_of-four l at (omega arith), ap (λ (k : ℕ). number_of (take 4 (drop k l))) next)
+pub number_of_8 : (l : List ℕ) (at : ℕ) → at + 8 ≤ length l → number_of (take 8 (drop at l)) ≡ from_le_bytes w64 (bytes_from 8 at l)
+unfolding number_of
+number_of_8 l at h = rw (part_is 8 at l h) (omega arith)
 
 weighed-append : (place : ℕ) (xs ys : List ℕ) → weighed place (xs ++ ys) ≡ weighed place xs + weighed (place + length xs) ys
 unfolding weighed

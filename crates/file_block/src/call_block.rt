@@ -1,76 +1,91 @@
 // The call block (request 2.9): what is wrong with it, whether it ends in a load, and the call that ten bytes hold.
-ghost use Rattle.std.specs.Prelude.{◌≡◌, cond, ◌+◌, ◌-◌, ◌*◌, ◌≤◌, ◌<◌, ◌/◌, ◌%◌, length, take, drop, get_or};
-ghost use Rattle.lists.specs.Tests.{any_of};
-ghost use Rattle.call.specs.Refusal.{first};
+ghost use Rattle.std.specs.Prelude.{◌≡◌, ◌≤◌};
+ghost use Rattle.std.specs.List.{list_any};
+ghost use Rattle.call.specs.Refusal.{first, number_in};
 ghost use Rattle.file_spec.specs.CallBlock.{many_in, codes_in, has_seat, has_amount, is_load_code, ends_in_load, call_conditions, call_of, code_call};
-ghost use Rattle.file_block.specs.Aids.Codes.{faulty_call, faulty_code, ends_badly, Counted};
+ghost use Rattle.file_block.specs.Aids.Codes.{faulty_code, ends_badly, has_calls, code_of};
 
-use crate::block::{checks, eight, zeros};
+use crate::block::{Block, all_zero, checks};
+use call::refusal::Refusal;
 use call::{At, Call};
+
+// The kind of a load.
+const LOAD: u8 = 17;
+
+// A call's ten bytes, taken apart: its kind, the byte of its seat and its position, its amount. The kind is a number here and below, since a file's byte may be any of 256.
+#[derive(Clone, Copy)]
+pub(crate) struct Code {
+    pub kind: u8,
+    pub guest: u8,
+    pub amount: u64,
+}
+
+impl From<&[u8; 10]> for Code {
+    ghost from_gives = { λ bytes code. code ≡ code_of bytes.now };
+
+    fn from(bytes: &[u8; 10]) -> Code {
+        let &[kind, guest, a, b, c, d, e, f, g, h] = bytes;
+        let amount = u64::from_le_bytes([a, b, c, d, e, f, g, h]);
+        Code {
+            kind,
+            guest,
+            amount,
+        }
+    }
+}
 
 // The kinds of calls with a seat.
 fn has_seat(kind: u8) -> bool
     ensures { result ≡ has_seat kind }
 {
-    ((3 <= kind) & (kind <= 5)) | ((7 <= kind) & (kind <= 14)) | (18 <= kind)
+    matches!(kind, 3..=5 | 7..=14 | 18..)
 }
 
 // The kinds of calls with an amount.
 fn has_amount(kind: u8) -> bool
     ensures { result ≡ has_amount kind }
 {
-    (kind <= 5) | (kind == 7) | (18 <= kind)
+    matches!(kind, 0..=5 | 7 | 18..)
 }
 
-// Whether a kind, a seat's byte and an amount make no call: an unknown kind, a seat or an amount at a call that has none. There is no branch.
-fn faulty_call(kind: u8, seat: u8, amount: u64) -> bool
-    ensures { result ≡ faulty_call kind seat amount }
+// Whether ten bytes make no call: an unknown kind, a seat or an amount at a call that has none.
+#[tactic(auto, unfolding(crate::specs::Aids::Codes::faulty_code))]
+fn faulty_code(bytes: &[u8; 10]) -> bool
+    ensures { result ≡ faulty_code bytes.now }
 {
-    (kind == 0)
-        | (21 < kind)
-        | (!has_seat(kind) & (seat != 0))
-        | (!has_amount(kind) & (amount != 0))
+    let Code {
+        kind,
+        guest,
+        amount,
+    } = Code::from(bytes);
+    kind == 0 || 21 < kind || (!has_seat(kind) && guest != 0) || (!has_amount(kind) && amount != 0)
 }
 
-// The same of the ten bytes at a place.
-fn faulty_code(block: &[u8], at: usize) -> bool
-    requires { at + 10 ≤ length block.now }
-    ensures { result ≡ faulty_code (take 10 (drop at block.now)) }
+// Whether some of these calls is none.
+fn has_fault(codes: &[[u8; 10]]) -> bool
+    ensures { result ≡ list_any faulty_code codes.now }
 {
-    faulty_call(block[at], block[at + 1], eight(block, at + 2))
+    codes.iter().any(|code| faulty_code(code))
 }
 
-// Whether some call of the block is none.
-fn faulty_codes(block: &[u8]) -> bool
-    requires { Counted block.now }
-    ensures { result ≡ any_of faulty_code (codes_in block.now) }
+// The ten bytes of each call of a block.
+fn codes(block: &Block) -> &[[u8; 10]]
+    requires { many_in block.now ≤ 50 }
+    ensures { result.now ≡ codes_in block.now }
 {
-    let many = block[0] as usize;
-    for i in 0usize..many {
-        if faulty_code(block, 1 + 10 * i) {
-            return true;
-        }
-    }
-    false
+    let end = 1 + 10 * (block[0] as usize);
+    block[1..end].as_chunks().0
 }
 
-// Whether a call before the last is a load.
-fn load_before_last(block: &[u8]) -> bool
-    requires { Counted block.now }
-    ensures { result ≡ any_of is_load_code (take (many_in block.now - 1) (codes_in block.now)) }
+// Whether some of these calls is a load.
+fn has_load(codes: &[[u8; 10]]) -> bool
+    ensures { result ≡ list_any is_load_code codes.now }
 {
-    let last = block[0] as usize - 1;
-    for i in 0usize..last {
-        if block[1 + 10 * i] == 17 {
-            return true;
-        }
-    }
-    false
+    codes.iter().any(|code| code[0] == LOAD)
 }
 
 // Whether the last call of the block is a load.
-pub fn ends_in_load(block: &[u8]) -> bool
-    requires { length block.now ≡ 512 }
+pub fn ends_in_load(block: &Block) -> bool
     ensures { result ≡ ends_in_load block.now }
 {
     let many = block[0] as usize;
@@ -78,57 +93,47 @@ pub fn ends_in_load(block: &[u8]) -> bool
         return false;
     }
     let at = 10 * many - 9;
-    if 512 <= at {
-        return false;
-    }
-    block[at] == 17
+    at < 512 && block[at] == LOAD
 }
 
-// Whether a block ends where it should not: the last of the file in a load, another neither full nor in a load.
-fn ends_badly(last: bool, block: &[u8]) -> bool
-    requires { length block.now ≡ 512 }
+// Whether a block ends where it should not: the last of the file in a load, another neither full nor in a load. `last` is a fact of the block's place, as in the definition.
+fn ends_badly(last: bool, block: &Block) -> bool
     ensures { result ≡ ends_badly last block.now }
 {
     let load = ends_in_load(block);
-    (!last & (block[0] < 50) & !load) | (last & load)
+    if last { load } else { block[0] < 50 && !load }
 }
 
-// The number of a call block: 25, else 26 for its number of calls, its calls, a load before the last, a byte that should be zero, and where a block may end.
-pub fn call_number(last: bool, block: &[u8]) -> u8
-    requires { length block.now ≡ 512 }
-    ensures { result ≡ first (call_conditions last block.now) }
+// Whether a block has 1 to 50 calls, each of them one, no load before the last, zeros behind them, and ends where it may.
+fn has_calls(last: bool, block: &Block) -> bool
+    ensures { result ≡ has_calls last block.now }
+{
+    let many = block[0] as usize;
+    if many == 0 || 50 < many {
+        return false;
+    }
+    let codes = codes(block);
+    !has_fault(codes)
+        && !has_load(&codes[..many - 1])
+        && all_zero(&block[1 + 10 * many..508])
+        && !ends_badly(last, block)
+}
+
+// What is wrong with a call block: its check, else what it has.
+pub fn check_calls(last: bool, block: &Block) -> Result<(), Refusal>
+    ensures { number_in result ≡ first (call_conditions last block.now) }
 {
     if !checks(block) {
-        return 25;
+        return Err(Refusal::FileCheck);
     }
-    let many = block[0] as usize;
-    if many == 0 {
-        return 26;
+    if !has_calls(last, block) {
+        return Err(Refusal::FileContent);
     }
-    if 50 < many {
-        return 26;
-    }
-    if faulty_codes(block) {
-        return 26;
-    }
-    if load_before_last(block) {
-        return 26;
-    }
-    let end = 1 + 10 * many;
-    if !zeros(&block[end..508]) {
-        return 26;
-    }
-    if ends_badly(last, block) { 26 } else { 0 }
-}
-
-// The kind of a side stake: what is past 17, the kind of a load.
-fn side_kind(kind: u8) -> u8
-    ensures { result ≡ kind - 17 }
-{
-    if 17 < kind { kind - 17 } else { 0 }
+    Ok(())
 }
 
 // The call of a kind, 1 to 21; every other number is a side stake of no known kind.
+#[tactic(auto, unfolding(file_spec::specs::CallBlock::call_of))]
 pub fn call_of(kind: u8, at: At, amount: u64) -> Call
     ensures { result ≡ call_of kind at amount }
 {
@@ -149,20 +154,23 @@ pub fn call_of(kind: u8, at: At, amount: u64) -> Call
         14 => Call::Five(at),
         15 => Call::Close,
         16 => Call::Void,
-        17 => Call::Load,
-        _ => Call::Side(at, side_kind(kind), amount),
+        LOAD => Call::Load,
+        _ => Call::Side(at, kind.saturating_sub(17), amount),
     }
 }
 
-// The call that the ten bytes at a place hold.
-pub fn code_call(file: &[u8], at: usize) -> Call
-    requires { at + 10 ≤ length file.now }
-    ensures { result ≡ code_call (take 10 (drop at file.now)) }
+// The call that ten bytes hold.
+pub fn code_call(bytes: &[u8; 10]) -> Call
+    ensures { result ≡ code_call bytes.now }
 {
-    let seat = file[at + 1];
-    let guest = At {
-        seat: seat % 16,
-        position: seat / 16,
+    let Code {
+        kind,
+        guest,
+        amount,
+    } = Code::from(bytes);
+    let at = At {
+        seat: guest % 16,
+        position: guest / 16,
     };
-    call_of(file[at], guest, eight(file, at + 2))
+    call_of(kind, at, amount)
 }

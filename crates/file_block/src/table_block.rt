@@ -1,15 +1,16 @@
 // The table block (request 2.9): the options that it holds, and what is wrong with it.
-ghost use Rattle.std.specs.Prelude.{◌≡◌, length};
-ghost use Rattle.call.specs.Refusal.{first};
+ghost use Rattle.std.specs.Prelude.{◌≡◌};
+ghost use Rattle.call.specs.Refusal.{first, number_in};
 ghost use Rattle.file_spec.specs.TableBlock.{options_in, table_conditions, same_options, loaded_conditions};
+ghost use Rattle.file_block.specs.Aids.Tables.{has_table};
 
-use crate::block::{checks, four, two, zeros};
+use crate::block::{Block, all_zero, checks};
+use call::refusal::Refusal;
 use card_count::valid_order::valid_order;
 use options::{Options, in_range};
 
 // The options of a block.
-pub fn options_in(block: &[u8]) -> Options
-    requires { length block.now ≡ 512 }
+pub fn options_in(block: &Block) -> Options
     ensures { result ≡ options_in block.now }
 {
     Options {
@@ -26,54 +27,51 @@ pub fn options_in(block: &[u8]) -> Options
         prize: block[10],
         device: block[11],
         decider: block[12],
-        cut: two(block, 13),
-        smallest: four(block, 15),
-        largest: four(block, 19),
+        cut: u16::from_le_bytes([block[13], block[14]]),
+        smallest: u32::from_le_bytes([block[15], block[16], block[17], block[18]]),
+        largest: u32::from_le_bytes([block[19], block[20], block[21], block[22]]),
     }
 }
 
-// The number of a table block: 25, else 26 for its options, its order, and a byte that should be zero.
-pub fn table_number(block: &[u8]) -> u8
-    requires { length block.now ≡ 512 }
-    ensures { result ≡ first (table_conditions block.now) }
+// Whether a block has options in range, an order for them, and zeros elsewhere.
+fn has_table(block: &Block) -> bool
+    ensures { result ≡ has_table block.now }
 {
-    if !checks(block) {
-        return 25;
+    if !in_range(options_in(block)) {
+        return false;
     }
     let decks = block[1];
     let end = 32 + 52 * (decks as usize);
-    if !in_range(options_in(block)) {
-        return 26;
+    valid_order(decks, &block[32..end]) && all_zero(&block[23..32]) && all_zero(&block[end..508])
+}
+
+// What is wrong with a table block: its check, else what it has.
+pub fn check_table(block: &Block) -> Result<(), Refusal>
+    ensures { number_in result ≡ first (table_conditions block.now) }
+{
+    if !checks(block) {
+        return Err(Refusal::FileCheck);
     }
-    if !valid_order(decks, &block[32..end]) {
-        return 26;
+    if !has_table(block) {
+        return Err(Refusal::FileContent);
     }
-    if !zeros(&block[23..32]) {
-        return 26;
-    }
-    if zeros(&block[end..508]) { 0 } else { 26 }
+    Ok(())
 }
 
 // Whether two blocks have the same options.
-pub(crate) fn same_options(start: &[u8], block: &[u8]) -> bool
-    requires { (length start.now ≡ 512) × (length block.now ≡ 512) }
+pub(crate) fn same_options(start: &Block, block: &Block) -> bool
     ensures { result ≡ same_options start.now block.now }
 {
-    let mut all = true;
-    for k in 0usize..23 {
-        all = all & (start[k] == block[k]);
-    }
-    all
+    start[..23] == block[..23]
 }
 
-// The number of a table block behind a load: 26 also where its options are not those of the file's first block.
-pub fn loaded_number(start: &[u8], block: &[u8]) -> u8
-    requires { (length start.now ≡ 512) × (length block.now ≡ 512) }
-    ensures { result ≡ first (loaded_conditions start.now block.now) }
+// What is wrong with a table block behind a load: the same, and options that are not those of the file's first block.
+pub fn check_loaded(start: &Block, block: &Block) -> Result<(), Refusal>
+    ensures { number_in result ≡ first (loaded_conditions start.now block.now) }
 {
-    let number = table_number(block);
-    if number != 0 {
-        return number;
+    check_table(block)?;
+    if !same_options(start, block) {
+        return Err(Refusal::FileContent);
     }
-    if same_options(start, block) { 0 } else { 26 }
+    Ok(())
 }

@@ -1,69 +1,60 @@
 -- What one more call gives, case by case, and what is known of the parts of a call that can be written.
-use mathlib.Core.Path.{◌≡◌, refl}
-use mathlib.Core.Bool.{true, false, not, ◌&&◌, ◌||◌, and-eq-true_iff}
+use mathlib.Core.Path.{◌≡◌, refl, sym}
+use Rattle.std.proofs.Common.{rules}
+use Rattle.call.specs.declared.At.{At}
+use mathlib.Core.Bool.{Bool, true≢false, true, false, ◌&&◌}
 use mathlib.Core.List.{List, [], ◌∷◌, ◌++◌}
 use Prim.Native.Nat.{ℕ, ◌+◌, ◌≤◌, ◌<◌}
 use native.Mathlib.Omega.{arith}
-use borrow.Author.Tests.{le-leb, lt-leb, eq-eqb, ne_eqb, ltb-true, leb-true}
-use lib.Dec.{ltb, leb, eqb}
+use borrow.Author.Tests.{lt-ltb, le-leb, lt-leb, eq-eqb, ne_eqb}
+use lib.Dec.{eqb}
+use Rattle.call.specs.Call.{kind, seat, position, amount}
+use Rattle.std.specs.Prelude.{Some, None, cond}
 use Rattle.call.specs.declared.Call.{Call}
 use Rattle.call.specs.declared.Call.TheVariants.{Fill, Credit, Buy, Cash, Stake, Deal, Insure, Stand, Draw, Double, Split, Surrender, Even, Five, Close, Void, Load, Side}
-use Rattle.call.specs.Call.{kind, seat, position, amount}
 use Rattle.options.specs.declared.Options.{Options}
 use Rattle.options.specs.Ranges.{in_range}
 use Rattle.table.specs.Shoe.{valid_order}
 use Rattle.history.specs.Entry.{Entry, is_load}
 use Rattle.file_spec.specs.TableBlock.{table_block}
 use Rattle.file_spec.specs.CallBlock.{call_bytes}
-use Rattle.file_spec.specs.File.{known_kind, writable}
+use Rattle.file_spec.specs.File.{known_kind, fits, writable}
 use Rattle.file_spec.specs.Writer.{block_of, written, unwritten, begun, added}
-use Rattle.file_writer.specs.declared.writer.Writer.{Writer}
-use Rattle.file_writer.specs.Writer.{calls_of}
-use Rattle.file_writer.specs.Parts.{parts_of}
-use Rattle.file_writer.specs.Aids.Parts.{code_of, fits_in, Small}
 
--- a writer without a call
-pub no_calls : (w : Writer) → w.many ≡ 0 → calls_of w ≡ []
-no_calls w e = rw e
+-- a call that ten bytes hold, taken apart: its kind is known, and is that of a load only where it is one
+pub known_parts : (c : Call) (k : ℕ) → cond (known_kind c) (Some (kind c)) None ≡ Some k → (known_kind c ≡ true) × (kind c ≡ k)
+known_parts c k e = go (known_kind c) refl e
+  where
+    go : (known : Bool) → known_kind c ≡ known → cond known (Some (kind c)) None ≡ Some k → (known_kind c ≡ true) × (kind c ≡ k)
+    go true is same = (is, search rules)
+    go false is same = search rules
 
--- the parts of a call are what the definitions ask
-pub fits-writable : (o : Options) (c : Call) (order : List ℕ) → fits_in o (parts_of c) order ≡ writable o (record { call = c; order = order })
-unfolding writable
-fits-writable o c order = refl
+pub small_fits : (c : Call) → known_kind c ≡ true → seat c < 16 → position c < 16 → amount c < 18446744073709551616 → fits c ≡ true
+small_fits c known s p n = rw (known, lt-ltb (seat c) 16 s, lt-ltb (position c) 16 p, le-leb (amount c) 18446744073709551615 (omega arith))
 
-pub code_bytes : (c : Call) → code_of (parts_of c) ≡ call_bytes c
-unfolding call_bytes
-code_bytes c = refl
-
--- a known kind fits its byte
-pub known_small : (c : Call) → known_kind c ≡ true → kind c < 256
+pub not_load : (c : Call) → fits c ≡ true → (c ≡ Load → ⊥) → eqb (kind c) 17 ≡ false
 unfolding known_kind
-known_small (Fill n) e = omega arith
-known_small (Credit n) e = omega arith
-known_small (Buy at n) e = omega arith
-known_small (Cash at n) e = omega arith
-known_small (Stake at n) e = omega arith
-known_small Deal e = omega arith
-known_small (Insure at n) e = omega arith
-known_small (Stand at) e = omega arith
-known_small (Draw at) e = omega arith
-known_small (Double at) e = omega arith
-known_small (Split at) e = omega arith
-known_small (Surrender at) e = omega arith
-known_small (Even at) e = omega arith
-known_small (Five at) e = omega arith
-known_small Close e = omega arith
-known_small Void e = omega arith
-known_small Load e = omega arith
-known_small (Side at k n) e = omega (arith, leb-true k 4 ((and-eq-true_iff (leb 1 k) (leb k 4)).0 e).1)
-
-pub small_parts : (o : Options) (c : Call) (order : List ℕ) → fits_in o (parts_of c) order ≡ true → Small (parts_of c)
-small_parts o c order e =
-    let all = ((and-eq-true_iff (known_kind c && ltb (seat c) 16 && ltb (position c) 16 && leb (amount c) 18446744073709551615) (not (eqb (kind c) 17) || valid_order o.decks order)).0 e).0 in
-    let three = ((and-eq-true_iff (known_kind c && ltb (seat c) 16 && ltb (position c) 16) (leb (amount c) 18446744073709551615)).0 all).0 in
-    let two = (and-eq-true_iff (known_kind c && ltb (seat c) 16) (ltb (position c) 16)).0 three in
-    let one = (and-eq-true_iff (known_kind c) (ltb (seat c) 16)).0 two.0 in
-    record { kind = known_small c one.0; seat = ltb-true (seat c) 16 one.1; position = ltb-true (position c) 16 two.1 }
+not_load (Fill n) e other = refl
+not_load (Credit n) e other = refl
+not_load (Buy at n) e other = refl
+not_load (Cash at n) e other = refl
+not_load (Stake at n) e other = refl
+not_load Deal e other = refl
+not_load (Insure at n) e other = refl
+not_load (Stand at) e other = refl
+not_load (Draw at) e other = refl
+not_load (Double at) e other = refl
+not_load (Split at) e other = refl
+not_load (Surrender at) e other = refl
+not_load (Even at) e other = refl
+not_load (Five at) e other = refl
+not_load Close e other = refl
+not_load Void e other = refl
+not_load Load e other = absurd (other refl)
+not_load (Side at k n) e other = ne_eqb (17 + k) 17 (λ none. side_some k n at e (omega arith))
+  where
+    side_some : (k n : ℕ) (at : At) → fits (Side at k n) ≡ true → k ≡ 0 → ⊥
+    side_some k n at e none = true≢false (sym (rw none at e))
 
 module _ (o : Options) (many : ℕ) (bytes : List ℕ) (e : Entry) where
   pub add_full : 50 ≤ many → unwritten many bytes ≡ added o many bytes e

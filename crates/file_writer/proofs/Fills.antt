@@ -10,7 +10,6 @@ use Rattle.lists.proofs.Stores.{drop-replicate}
 use Rattle.lists.proofs.Takes.{take_clamped}
 use Rattle.file_spec.specs.Block.{little_endian, weighed, content, padded, sealed}
 use Rattle.file_spec.specs.Writer.{block_of}
-use Rattle.file_writer.specs.Aids.Parts.{empty_block}
 
 -- bytes and the zeros behind them
 abbrev filled : List ℕ → List ℕ
@@ -53,13 +52,14 @@ sealed_here block check full four e =
     let same : padded 508 (content block) ≡ content block = take_at (content block) (replicate 508 0) 508 (length-take-le 508 block (omega arith)) in
     rw (take-length check, none, append-nil, same, e)
 
--- blocks of zeros, filled
+-- a block of zeros
+abbrev pub empty_block : List ℕ
+empty_block = replicate 512 0
+
 empty-filled : empty_block ≡ filled []
-unfolding empty_block
 empty-filled = refl
 
 one-filled : (many : ℕ) → set empty_block 0 many ≡ filled (many ∷ [])
-unfolding empty_block
 one-filled many = refl
 
 -- what lies behind the first 508 bytes is not in the block

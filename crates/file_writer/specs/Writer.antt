@@ -1,22 +1,26 @@
 -- What the code's writer holds and gives, as the definitions see it: the bytes of the calls of the open block, and the blocks that are complete.
-use Rattle.std.specs.Prelude.{◌≡◌, List, [], ◌∷◌, ℕ, ◌*◌, take}
-use Rattle.options.specs.declared.Options.{Options}
-use Rattle.file_spec.specs.Writer.{Written as WrittenView}
+use Rattle.std.specs.Prelude.{Result, Ok, Err, List, [], ◌∷◌, ℕ, ◌*◌, take}
+use Rattle.call.specs.declared.refusal.Refusal.{Refusal}
+use Rattle.call.specs.Refusal.{number_of}
+use Rattle.file_spec.specs.Writer.{Written, written}
 use Rattle.file_writer.specs.declared.writer.Writer.{Writer}
-use Rattle.file_writer.specs.declared.writer.Written.{Written}
-use Rattle.file_writer.specs.declared.writer.Last.{Last}
+use Rattle.file_writer.specs.declared.writer.Blocks.{Blocks}
+use Rattle.file_writer.specs.declared.writer.Blocks.TheVariants.{None, One, Two}
 
 -- The bytes of the open block's calls.
 abbrev pub calls_of : Writer → List ℕ
 calls_of w = take (10 * w.many) w.bytes
 
-abbrev pub written_of : Written → WrittenView
-written_of r = record { number = r.number; blocks = take r.blocks (r.first ∷ r.second ∷ []); many = r.writer.many; bytes = calls_of r.writer }
+abbrev pub blocks_in : Blocks → List (List ℕ)
+blocks_in None = []
+blocks_in (One block) = block ∷ []
+blocks_in (Two blocks) = blocks
 
--- The code gives what the definition says, and a writer of the same options.
-pub record Gives (o : Options) (view : WrittenView) (r : Written) : Type 0 where
-  pub same : written_of r ≡ view
-  pub options : r.writer.options ≡ o
+-- What the beginning gives, and what one more call gives, with the writer after it.
+abbrev pub begun_of : Result (Writer × List ℕ) Refusal → Written
+begun_of (Ok (w, table)) = written (table ∷ []) w.many (calls_of w)
+begun_of (Err why) = record { number = number_of why; blocks = []; many = 0; bytes = [] }
 
-abbrev pub last_of : Last → List (List ℕ)
-last_of r = take r.blocks (r.block ∷ [])
+abbrev pub written_of : Result Blocks Refusal → Writer → Written
+written_of (Ok blocks) w = written (blocks_in blocks) w.many (calls_of w)
+written_of (Err why) w = record { number = number_of why; blocks = []; many = w.many; bytes = calls_of w }

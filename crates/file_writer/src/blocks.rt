@@ -1,18 +1,20 @@
 // The two blocks that a writer gives (request 2.9).
-ghost use Rattle.std.specs.Prelude.{◌≡◌, ◌*◌, min, take};
+ghost use Rattle.std.specs.Prelude.{◌≡◌, ◌*◌, take};
 ghost use Rattle.file_spec.specs.Block.{padded};
 ghost use Rattle.file_spec.specs.TableBlock.{option_bytes as option_bytes_of, table_block};
 ghost use Rattle.file_spec.specs.Writer.{block_of};
 
-use crate::bytes::{empty_block, four_bytes, put, seal};
+use crate::bytes::{put, seal};
+use file_block::block::Block;
 use options::Options;
 
 // The options at their places, zeros behind them.
 fn option_bytes(o: Options) -> [u8; 32]
     ensures { result ≡ padded 32 (option_bytes_of o) }
 {
-    let s = four_bytes(o.smallest);
-    let l = four_bytes(o.largest);
+    let cut = o.cut.to_le_bytes();
+    let smallest = o.smallest.to_le_bytes();
+    let largest = o.largest.to_le_bytes();
     [
         o.seats,
         o.decks,
@@ -27,16 +29,16 @@ fn option_bytes(o: Options) -> [u8; 32]
         o.prize,
         o.device,
         o.decider,
-        (o.cut % 256) as u8,
-        (o.cut / 256 % 256) as u8,
-        s[0],
-        s[1],
-        s[2],
-        s[3],
-        l[0],
-        l[1],
-        l[2],
-        l[3],
+        cut[0],
+        cut[1],
+        smallest[0],
+        smallest[1],
+        smallest[2],
+        smallest[3],
+        largest[0],
+        largest[1],
+        largest[2],
+        largest[3],
         0,
         0,
         0,
@@ -49,28 +51,26 @@ fn option_bytes(o: Options) -> [u8; 32]
     ]
 }
 
-fn least(a: usize, b: usize) -> usize
-    ensures { result ≡ min a b }
-{
-    if a < b { a } else { b }
-}
-
 // The table block of options and an order; of an order too long for a block the first 476 cards.
-pub(crate) fn table_block(o: Options, order: &[u8]) -> [u8; 512]
+pub(crate) fn table_block(o: Options, order: &[u8]) -> Block
     ensures { result ≡ table_block o order.now }
 {
-    let head = option_bytes(o);
-    let begun = put(empty_block(), 0, &head);
-    let used = least(order.len(), 476);
-    seal(put(begun, 32, &order[..used]))
+    let mut block = [0; 512];
+    let used = order.len().min(476);
+    put(&mut block, 0, &option_bytes(o));
+    put(&mut block, 32, &order[..used]);
+    seal(&mut block);
+    block
 }
 
 // The call block of so many calls, from their bytes.
-pub(crate) fn call_block(many: u8, bytes: [u8; 500]) -> [u8; 512]
-    ensures { result ≡ block_of many (take (10 * many) bytes) }
+pub(crate) fn call_block(many: u8, bytes: &[u8; 500]) -> Block
+    ensures { result ≡ block_of many (take (10 * many) bytes.now) }
 {
-    let used = least(10 * (many as usize), 500);
-    let mut begun = empty_block();
-    begun[0] = many;
-    seal(put(begun, 1, &bytes[..used]))
+    let mut block = [0; 512];
+    let used = (10 * usize::from(many)).min(500);
+    block[0] = many;
+    put(&mut block, 1, &bytes[..used]);
+    seal(&mut block);
+    block
 }

@@ -1,27 +1,27 @@
 // The parts of a call and its ten bytes (request 2.9).
 ghost use Rattle.std.specs.Prelude.{◌≡◌};
 ghost use Rattle.file_writer.specs.Parts.{parts_of};
-ghost use Rattle.file_writer.specs.Aids.Parts.{house_parts, guest_parts, side_parts, code_of, Small};
+ghost use Rattle.file_writer.specs.Codes.{CodeOf};
+ghost use Rattle.file_writer.specs.Aids.Parts.{house_parts, guest_parts, side_parts};
 
+use call::refusal::Refusal;
 use call::{At, Call};
 
-// What a call has in the file: its kind, its seat, its position, its amount; and whether a side stake's kind is one of the four.
+// What a call has in the file: its kind, none where it is a side stake of no known kind; its seat, its position, its amount.
 #[derive(Clone, Copy)]
 pub struct Parts {
-    pub known: bool,
-    pub kind: u16,
+    pub kind: Option<u8>,
     pub seat: u8,
     pub position: u8,
     pub amount: u64,
 }
 
-// A call without a seat.
-fn of_house(kind: u16, amount: u64) -> Parts
+// A call without a seat. Its kind is the file's byte.
+fn of_house(kind: u8, amount: u64) -> Parts
     ensures { result ≡ house_parts kind amount }
 {
     Parts {
-        known: true,
-        kind,
+        kind: Some(kind),
         seat: 0,
         position: 0,
         amount,
@@ -29,25 +29,28 @@ fn of_house(kind: u16, amount: u64) -> Parts
 }
 
 // A call with a seat.
-fn of_guest(kind: u16, at: At, amount: u64) -> Parts
+// Its kind is the file's byte, here and below.
+fn of_guest(kind: u8, at: At, amount: u64) -> Parts
     ensures { result ≡ guest_parts kind at amount }
 {
     Parts {
-        known: true,
-        kind,
+        kind: Some(kind),
         seat: at.seat,
         position: at.position,
         amount,
     }
 }
 
-// A side stake.
+// A side stake of one of the four kinds, or of none.
 fn of_side(at: At, kind: u8, amount: u64) -> Parts
     ensures { result ≡ side_parts at kind amount }
 {
     Parts {
-        known: (1 <= kind) & (kind <= 4),
-        kind: 17 + (kind as u16),
+        kind: if 1 <= kind && kind <= 4 {
+            Some(17 + kind)
+        } else {
+            None
+        },
         seat: at.seat,
         position: at.position,
         amount,
@@ -81,29 +84,29 @@ pub fn parts_of(c: Call) -> Parts
     }
 }
 
-// Its ten bytes.
-pub(crate) fn code_bytes(f: Parts) -> [u8; 10]
-    requires { Small f }
-    ensures { result ≡ code_of f }
-{
-    let n = f.amount;
-    let a = n / 256;
-    let b = a / 256;
-    let c = b / 256;
-    let d = c / 256;
-    let e = d / 256;
-    let g = e / 256;
-    let h = g / 256;
-    [
-        f.kind as u8,
-        f.seat + 16 * f.position,
-        (n % 256) as u8,
-        (a % 256) as u8,
-        (b % 256) as u8,
-        (c % 256) as u8,
-        (d % 256) as u8,
-        (e % 256) as u8,
-        (g % 256) as u8,
-        (h % 256) as u8,
-    ]
+// The ten bytes of a call.
+#[derive(Clone, Copy)]
+pub(crate) struct Code(pub [u8; 10]);
+
+// Refused where no ten bytes hold it.
+impl TryFrom<Call> for Code {
+    type Error = Refusal;
+
+    ghost try_from_gives = { CodeOf };
+
+    fn try_from(call: Call) -> Result<Code, Refusal> {
+        let Parts {
+            kind,
+            seat,
+            position,
+            amount,
+        } = parts_of(call);
+        let [a, b, c, d, e, f, g, h] = amount.to_le_bytes();
+        match kind {
+            Some(kind) if seat < 16 && position < 16 => {
+                Ok(Code([kind, seat + 16 * position, a, b, c, d, e, f, g, h]))
+            }
+            _ => Err(Refusal::FileContent),
+        }
+    }
 }

@@ -1,4 +1,4 @@
-// The writer of a session file (request 2.9): told each accepted call, it gives, block by block, the one file that a session has. A writer goes in by value and comes back.
+// The writer of a session file (request 2.9): told each accepted call, it gives, block by block, the one file that a session has.
 #![tactic(auto)]
 
 mod blocks;

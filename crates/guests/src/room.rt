@@ -1,9 +1,11 @@
-// What is kept from row to row: the hosted table, and the stage for orders and openings. Rows may also put a card or a tally there as no call does.
+// What is kept from row to row: the hosted table, and the stage for orders, openings and pay lines. Rows may also put a card or a tally there as no call does.
+use answer::reply::Answer;
 use call::At;
-use host::without_cards;
-use host_spec::{GuestCard, Hosted, Tally};
-use stage::{Stage, first_stage};
-use table::Table;
+use host::outcome::HostReply;
+use host::{host_step, without_cards};
+use host_spec::{GuestCard, HostCall, Hosted, Tally};
+use stage::Stage;
+use stage::row::Row;
 
 #[derive(Clone, Copy)]
 pub(crate) struct Room {
@@ -11,62 +13,52 @@ pub(crate) struct Room {
     pub(crate) hosted: Hosted,
 }
 
-pub(crate) fn first_room() -> Room {
-    let stage = first_stage();
-    let hosted = without_cards(stage.table);
-    Room { stage, hosted }
-}
-
-// A table that was opened has no card.
-pub(crate) fn with_table(r: Room, table: Table) -> Room {
-    let mut next = r;
-    next.hosted = without_cards(table);
-    next
-}
-
-pub(crate) fn with_hosted(r: Room, hosted: Hosted) -> Room {
-    let mut next = r;
-    next.hosted = hosted;
-    next
-}
-
-// The place of a position, or 27 where there is none.
-fn place_of(at: At) -> usize {
-    if 9 <= at.seat {
-        return 27;
+impl Room {
+    pub(crate) fn new() -> Self {
+        let stage = Stage::new();
+        Room {
+            stage,
+            hosted: without_cards(stage.table),
+        }
     }
-    if 3 <= at.position {
-        return 27;
-    }
-    3 * (at.seat as usize) + (at.position as usize)
-}
 
-fn with_place(h: Hosted, place: usize, g: GuestCard) -> Hosted {
-    if 27 <= place {
-        return h;
+    // An opening, and its number; the table then has no card.
+    pub(crate) fn open(&mut self, row: Row<'_>) -> u8 {
+        let number = self.stage.open(row.house());
+        self.hosted = without_cards(self.stage.table);
+        number
     }
-    let mut next = h;
-    next.cards[place] = g;
-    next
-}
 
-// So many rounds, with 20 laid and 20 back in each.
-fn even_tally(rounds: u32) -> Tally {
-    let money = 20 * (rounds as u64);
-    Tally {
-        rounds,
-        wagered: money,
-        returned: money,
+    // A call, with the order that was lent last.
+    pub(crate) fn play(&mut self, call: HostCall) -> Answer {
+        let stage = &mut self.stage;
+        let HostReply { answer, hosted } = host_step(
+            self.hosted,
+            call,
+            stage.order.as_slice(),
+            &mut stage.lines.names,
+            &mut stage.lines.nets,
+        );
+        self.hosted = hosted;
+        answer
     }
-}
 
-// A card put at a position, with a tally of so many rounds. Nothing is asked: so a card may sit twice, or a tally stand past its end.
-pub(crate) fn put(r: Room, at: At, card: u64, rounds: u32) -> Room {
-    let tally = even_tally(rounds);
-    let g = GuestCard {
-        here: 1,
-        card,
-        tally,
-    };
-    with_hosted(r, with_place(r.hosted, place_of(at), g))
+    // A card put at a position, with a tally of so many rounds, 20 laid and 20 back in each. Nothing is asked: so a card may sit twice, or a tally stand past its end.
+    pub(crate) fn put(&mut self, at: At, card: u64, rounds: u32) {
+        if 9 <= at.seat || 3 <= at.position {
+            return;
+        }
+        let money = 20 * u64::from(rounds);
+        let tally = Tally {
+            rounds,
+            wagered: money,
+            returned: money,
+        };
+        let place = 3 * usize::from(at.seat) + usize::from(at.position);
+        self.hosted.cards[place] = GuestCard {
+            here: 1,
+            card,
+            tally,
+        };
+    }
 }

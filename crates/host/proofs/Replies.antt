@@ -27,7 +27,7 @@ use Rattle.host_spec.specs.Arrive.{arrive_conditions, arrive_effect}
 use Rattle.host_spec.specs.Leave.{leave_conditions, leave_effect}
 use Rattle.host_spec.specs.Close.{counted_from}
 use Rattle.host_spec.specs.Step.{host_conditions, cards_after, host_effect, host_shown, host_number, host_next}
-use Rattle.host.specs.declared.outcome.HostOutcome.{HostOutcome}
+use Rattle.host.specs.Outcome.{HostOutcome}
 use Rattle.host.specs.declared.outcome.HostReply.{HostReply}
 use Rattle.host.specs.Outcome.{make_host_outcome, host_outcome}
 use Rattle.host.specs.Given.{HostGiven, host_reply, host_given_by, host_given_of, plain_host_reply}

@@ -8,7 +8,7 @@ use Rattle.answer.specs.Reply.{ReplyView, make_reply_view, Given, given_by, give
 use Rattle.host_spec.specs.declared.Hosted.{Hosted}
 use Rattle.host_spec.specs.declared.HostCall.{HostCall}
 use Rattle.host_spec.specs.Step.{host_number, host_next, host_shown}
-use Rattle.host.specs.declared.outcome.HostOutcome.{HostOutcome}
+use Rattle.host.specs.Outcome.{HostOutcome}
 use Rattle.host.specs.declared.outcome.HostReply.{HostReply}
 
 pub record HostGiven : Type 0 where

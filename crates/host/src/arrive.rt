@@ -1,17 +1,16 @@
 // A card arrives at a position, while no round is dealt and no stake lies there. For every hosted table, position and card its outcome is that of host_spec/specs/Arrive.antt.
 ghost use Rattle.std.specs.Prelude.{◌≡◌, false};
-ghost use Rattle.call.specs.Refusal.{first};
+ghost use Rattle.call.specs.Refusal.{number_in, first};
 ghost use Rattle.host_spec.specs.Cards.{arrived as arrived_card};
 ghost use Rattle.host_spec.specs.Broken.{host_broken};
 ghost use Rattle.host_spec.specs.Arrive.{arrive_conditions, arrive_effect};
-ghost use Rattle.host.specs.Outcome.{host_outcome};
+ghost use Rattle.host.specs.Outcome.{host_outcome, host_outcome_in};
 
-use crate::outcome::HostOutcome;
 use crate::places::find_card;
 use crate::sound::host_broken;
-use answer::conditions::guest_number;
+use answer::conditions::check_guest;
 use call::At;
-use call::refusal::asked;
+use call::refusal::{Refusal, first_refusal};
 use host_spec::{GuestCard, Hosted, Tally};
 use state::round::is_dealt;
 use state::seat::{guest_money, seat_at};
@@ -31,51 +30,36 @@ fn arrived(card: u64) -> GuestCard
     }
 }
 
-// The number of an arrival on a hosted table that is not broken.
-fn arrive_number(h: Hosted, at: At, card: u64) -> u8
+// Why an arrival on a hosted table that is not broken is refused.
+fn check_arrive(h: Hosted, at: At, card: u64) -> Result<(), Refusal>
     requires { host_broken h ≡ false }
-    ensures { result ≡ first (arrive_conditions h at.seat at.position card) }
+    ensures { number_in result ≡ first (arrive_conditions h at.seat at.position card) }
 {
-    let t = h.table;
-    let o = t.options;
-    let early = guest_number(4, is_dealt(t), o.seats, at);
-    if early != 0 {
-        return early;
-    }
-    let cards = h.cards;
+    check_guest(
+        Refusal::RoundDealt,
+        is_dealt(h.table),
+        h.table.options.seats,
+        at,
+    )?;
     let place = 3 * (at.seat as usize) + (at.position as usize);
-    let there = cards[place];
-    let s = seat_at(t, at.seat as usize);
+    let s = seat_at(h.table, at.seat as usize);
     let money = guest_money(s, at.position);
-    asked(
-        28,
-        there.here == 1,
-        asked(
-            28,
-            find_card(cards, card) < 27,
-            asked(9, 0 < money.stake, 0),
-        ),
-    )
+    first_refusal(&[
+        (Refusal::Taken, h.cards[place].here == 1),
+        (Refusal::Taken, find_card(h.cards, card).is_some()),
+        (Refusal::LaidAlready, 0 < money.stake),
+    ])
 }
 
-pub fn arrive(h: Hosted, at: At, card: u64) -> HostOutcome
-    ensures { result ≡ host_outcome (arrive_conditions h at.seat at.position card) (arrive_effect h at.seat at.position card) h }
+pub fn arrive(h: Hosted, at: At, card: u64) -> Result<Hosted, Refusal>
+    ensures { host_outcome_in h result ≡ host_outcome (arrive_conditions h at.seat at.position card) (arrive_effect h at.seat at.position card) h }
 {
     if host_broken(h) {
-        return HostOutcome {
-            number: 1,
-            hosted: h,
-        };
+        return Err(Refusal::Broken);
     }
-    let number = arrive_number(h, at, card);
-    if number != 0 {
-        return HostOutcome { number, hosted: h };
-    }
+    check_arrive(h, at, card)?;
     let place = 3 * (at.seat as usize) + (at.position as usize);
     let mut next = h;
     next.cards[place] = arrived(card);
-    HostOutcome {
-        number,
-        hosted: next,
-    }
+    Ok(next)
 }

@@ -41,21 +41,19 @@ fn counted_card(t: Table, after: Table, place: usize, g: GuestCard) -> GuestCard
     if g.here != 1 {
         return g;
     }
-    let tally = g.tally;
-    if MOST_ROUNDS <= tally.rounds {
+    if MOST_ROUNDS <= g.tally.rounds {
         return g;
     }
     let i = place / 3;
     let p = (place % 3) as u8;
     let s = guest_at(seat_at(t, i), p);
-    let money = s.money;
-    if money.stake == 0 {
+    if s.money.stake == 0 {
         return g;
     }
     let then = guest_money(seat_at(after, i), p);
-    let back = then.purse - money.purse + prizes(t.options, s);
+    let back = then.purse - s.money.purse + prizes(t.options, s);
     let mut next = g;
-    next.tally = with_round(tally, laid(s), back);
+    next.tally = with_round(g.tally, laid(s), back);
     next
 }
 
@@ -66,13 +64,10 @@ pub(crate) fn counted(h: Hosted, after: Table) -> Hosted
     requires sound { sound_cards h.table.options h.cards ≡ true }
     ensures { result ≡ hosted after (counted_from h.table after 0 h.cards) }
 {
-    let t = h.table;
-    table_shape(t);
-    let cards = h.cards;
-    let mut next = cards;
-    for k in 0usize..27 {
-        let g = cards[k];
-        next[k] = counted_card(t, after, k, g);
+    table_shape(h.table);
+    let mut next = h.cards;
+    for (k, g) in h.cards.iter().enumerate() {
+        next[k] = counted_card(h.table, after, k, *g);
     }
     Hosted {
         table: after,

@@ -20,11 +20,12 @@ ghost use Rattle.host.specs.Given.{host_given_by, host_given_of};
 use crate::arrive::arrive;
 use crate::counting::counted;
 use crate::leave::leave;
-use crate::outcome::{HostOutcome, HostReply, plain_host_reply};
+use crate::outcome::{HostReply, plain_host_reply};
 use crate::places::no_card;
 use crate::sound::cards_sound;
 use call::Call;
 use call::pay_line::LINES;
+use call::refusal::Refusal;
 use engine::step;
 use host_spec::{HostCall, Hosted};
 use table::Table;
@@ -33,10 +34,9 @@ use table::Table;
 pub fn without_cards(table: Table) -> Hosted
     ensures { result ≡ hosted table (replicate 27 no_card) }
 {
-    let none = no_card();
     Hosted {
         table,
-        cards: [none; 27],
+        cards: [no_card(); 27],
     }
 }
 
@@ -51,6 +51,7 @@ fn is_close(c: Call) -> bool
 }
 
 // A call of the table: the engine's step behind the test of the cards. The round is counted behind an accepted close.
+// Two lent arrays, as the engine takes them.
 fn play(
     h: Hosted,
     c: Call,
@@ -60,30 +61,28 @@ fn play(
 ) -> HostReply
     ensures { host_given_of result names.new nets.new ≡ host_given_by h (Play c) order.now names.old nets.old }
 {
-    let t = h.table;
-    let o = t.options;
-    let cards = h.cards;
-    if !cards_sound(o, cards) {
-        return plain_host_reply(HostOutcome {
-            number: 1,
-            hosted: h,
-        });
+    if !cards_sound(h.table.options, h.cards) {
+        return plain_host_reply(h, Err(Refusal::Broken));
     }
-    let reply = step(t, c, order, names, nets);
+    let reply = step(h.table, c, order, names, nets);
     let answer = reply.answer;
-    let table = reply.table;
+    // An answer's number, as C reads it: 0 is accepted.
     if answer.number != 0 {
         return HostReply { answer, hosted: h };
     }
     if is_close(c) {
         return HostReply {
             answer,
-            hosted: counted(h, table),
+            hosted: counted(h, reply.table),
         };
     }
+    let cards = h.cards;
     HostReply {
         answer,
-        hosted: Hosted { table, cards },
+        hosted: Hosted {
+            table: reply.table,
+            cards,
+        },
     }
 }
 
@@ -99,7 +98,7 @@ pub fn host_step(
 {
     match c {
         HostCall::Play(call) => play(h, call, order, names, nets),
-        HostCall::Arrive(at, card) => plain_host_reply(arrive(h, at, card)),
-        HostCall::Leave(card) => plain_host_reply(leave(h, card)),
+        HostCall::Arrive(at, card) => plain_host_reply(h, arrive(h, at, card)),
+        HostCall::Leave(card) => plain_host_reply(h, leave(h, card)),
     }
 }

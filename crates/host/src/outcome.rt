@@ -1,17 +1,12 @@
-// What an arrival or a leaving gives back, and what a step of a hosted table gives back.
+// What a step of a hosted table gives back.
 ghost use Rattle.std.specs.Prelude.{◌≡◌};
 ghost use Rattle.host.specs.Given.{plain_host_reply};
+ghost use Rattle.host.specs.Outcome.{make_host_outcome, host_outcome_in};
 
 use answer::outcome::Outcome;
 use answer::reply::{Answer, plain_reply};
+use call::refusal::Refusal;
 use host_spec::Hosted;
-
-// The number, 0 where it is accepted, and the hosted table after it.
-#[derive(Clone, Copy)]
-pub struct HostOutcome {
-    pub number: u8,
-    pub hosted: Hosted,
-}
 
 // The answer and the next hosted table; the pay lines of close stand in the arrays that the caller lends.
 #[derive(Clone, Copy)]
@@ -20,16 +15,30 @@ pub struct HostReply {
     pub hosted: Hosted,
 }
 
-// The reply of a call that shows nothing.
-pub(crate) fn plain_host_reply(o: HostOutcome) -> HostReply
-    ensures { result ≡ plain_host_reply o }
+// The answer of a call that shows nothing.
+// The answer holds a number, since C reads it.
+fn quiet_answer(h: Hosted, number: u8) -> Answer
+    ensures { result ≡ (plain_host_reply (make_host_outcome number h)).answer }
 {
-    let hosted = o.hosted;
-    let table = hosted.table;
     let plain = plain_reply(Outcome {
-        number: o.number,
-        table,
+        number,
+        table: h.table,
     });
-    let answer = plain.answer;
-    HostReply { answer, hosted }
+    plain.answer
+}
+
+// The reply of a call on the hosted table h that shows nothing.
+pub(crate) fn plain_host_reply(h: Hosted, r: Result<Hosted, Refusal>) -> HostReply
+    ensures { result ≡ plain_host_reply (host_outcome_in h r) }
+{
+    match r {
+        Ok(hosted) => HostReply {
+            answer: quiet_answer(hosted, 0),
+            hosted,
+        },
+        Err(why) => HostReply {
+            answer: quiet_answer(h, why.number()),
+            hosted: h,
+        },
+    }
 }

@@ -1,6 +1,5 @@
 // The 27 places of guest cards: an empty one, one taken out, and where a card sits.
-ghost use Rattle.std.specs.Prelude.{◌≡◌};
-ghost use Rattle.lists.specs.Tests.{first_place};
+ghost use Rattle.std.specs.Prelude.{◌≡◌, position};
 ghost use Rattle.host_spec.specs.Cards.{no_card, holds as holds_card};
 
 use host_spec::{GuestCard, Tally};
@@ -27,15 +26,9 @@ pub(crate) fn holds(card: u64, g: GuestCard) -> bool
     g.here == 1 && g.card == card
 }
 
-// The first place where that card sits, or 27 where it sits nowhere.
-pub(crate) fn find_card(cards: [GuestCard; 27], card: u64) -> usize
-    ensures { result ≡ first_place (holds_card card) cards }
+// The first place where that card sits.
+pub(crate) fn find_card(cards: [GuestCard; 27], card: u64) -> Option<usize>
+    ensures { result ≡ position (holds_card card) cards }
 {
-    for k in 0usize..27 {
-        let g = cards[k];
-        if holds(card, g) {
-            return k;
-        }
-    }
-    27
+    cards.iter().position(|g| holds(card, *g))
 }

@@ -6,7 +6,8 @@ use crate::places::no_card;
 use crate::sound::host_broken;
 use host_spec::{GuestCard, Hosted};
 
-// Whether a card sits there, which, and its tally: rounds closed, money wagered, net with prizes.
+// Whether a card sits there, which, and its tally: rounds closed, money wagered, net with prizes. A flag beside
+// zeros and no Option, since a display draws every field.
 #[derive(Clone, Copy)]
 pub struct CardShown {
     pub here: bool,
@@ -24,9 +25,7 @@ fn card_or_none(h: Hosted, seat: u8, position: u8) -> GuestCard
     if host_broken(h) {
         return no_card();
     }
-    let t = h.table;
-    let o = t.options;
-    if o.seats <= seat {
+    if h.table.options.seats <= seat {
         return no_card();
     }
     if 3 <= position {
@@ -40,15 +39,12 @@ fn card_values(g: GuestCard) -> CardShown
     requires { (g.tally.wagered ≤ 1000000000000000) × (g.tally.returned ≤ 1000000000000000) }
     ensures { result ≡ card_values g }
 {
-    let tally = g.tally;
-    let here = g.here == 1;
-    let net = (tally.returned as i64) - (tally.wagered as i64);
     CardShown {
-        here,
+        here: g.here == 1,
         card: g.card,
-        rounds: tally.rounds,
-        wagered: tally.wagered,
-        net,
+        rounds: g.tally.rounds,
+        wagered: g.tally.wagered,
+        net: (g.tally.returned as i64) - (g.tally.wagered as i64),
     }
 }
 

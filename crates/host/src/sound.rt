@@ -1,6 +1,7 @@
 // Whether guest cards are damaged, number 1 of every call (docs/BROKEN.md). Any value is taken: no product wraps.
-ghost use Rattle.std.specs.Prelude.{◌≡◌, not, ◌&&◌, ◌<◌, get_or};
+ghost use Rattle.std.specs.Prelude.{◌≡◌, not, ◌&&◌, get_or};
 ghost use Rattle.lists.specs.Below.{all_below};
+ghost use Rattle.lists.specs.Tests.{any_of};
 ghost use Rattle.host_spec.specs.Cards.{no_card, is_here, holds as holds_card};
 ghost use Rattle.host_spec.specs.Broken.{sound_tally, is_empty, sound_card, each_once, sound_cards, host_broken};
 
@@ -47,9 +48,8 @@ fn card_sound(o: Options, place: usize, g: GuestCard) -> bool
 fn each_sound(o: Options, cards: [GuestCard; 27]) -> bool
     ensures { result ≡ all_below (λ k. sound_card o k (get_or cards k no_card)) 27 }
 {
-    for k in 0usize..27 {
-        let g = cards[k];
-        if !card_sound(o, k, g) {
+    for (k, g) in cards.iter().enumerate() {
+        if !card_sound(o, k, *g) {
             return false;
         }
     }
@@ -64,28 +64,17 @@ fn same_card(f: GuestCard, g: GuestCard) -> bool
 }
 
 // The card of that place sits at none before it. A place without a card is passed over at once.
-fn new_at(cards: [GuestCard; 27], k: usize) -> bool
-    requires { k < 27 }
-    ensures { result ≡ all_below (λ j. not (is_here (get_or cards j no_card) && holds_card (get_or cards j no_card).card (get_or cards k no_card))) k }
+fn new_behind(before: &[GuestCard], g: GuestCard) -> bool
+    ensures { result ≡ not (any_of (λ f. is_here f && holds_card f.card g) before.now) }
 {
-    let g = cards[k];
-    if g.here != 1 {
-        return true;
-    }
-    for j in 0usize..k {
-        let f = cards[j];
-        if same_card(f, g) {
-            return false;
-        }
-    }
-    true
+    g.here != 1 || !before.iter().any(|f| same_card(*f, g))
 }
 
 fn each_new(cards: [GuestCard; 27]) -> bool
     ensures { result ≡ each_once cards }
 {
-    for k in 0usize..27 {
-        if !new_at(cards, k) {
+    for (k, g) in cards.iter().enumerate() {
+        if !new_behind(&cards[..k], *g) {
             return false;
         }
     }
@@ -102,8 +91,5 @@ pub fn cards_sound(o: Options, cards: [GuestCard; 27]) -> bool
 pub fn host_broken(h: Hosted) -> bool
     ensures { result ≡ host_broken h }
 {
-    let t = h.table;
-    let o = t.options;
-    let cards = h.cards;
-    broken(t) || !cards_sound(o, cards)
+    broken(h.table) || !cards_sound(h.table.options, h.cards)
 }

@@ -12,7 +12,8 @@ pub struct Tally {
     pub returned: u64,
 }
 
-// A position: 1 where a card sits there, else 0; the card, any number; its tally.
+// A position: 1 where a card sits there, else 0; the card, any number; its tally. A byte: any may be handed over, and
+// the cards are sound only with these two.
 #[derive(Clone, Copy)]
 pub struct GuestCard {
     pub here: u8,

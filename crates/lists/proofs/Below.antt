@@ -38,11 +38,6 @@ below_one_more f n = ap (all_below f) (add-one n)
 pub below_passes : (f : ℕ → Bool) (n : ℕ) → f n ≡ true → all_below f (n + 1) ≡ all_below f n
 below_passes f n e = below_one_more f n ∙ ap (λ (b : Bool). all_below f n && b) e ∙ and-true (all_below f n)
 
--- four tests, the first three of them passed
-pub all_but_last : (f : ℕ → Bool) → f 0 ≡ true → f 1 ≡ true → f 2 ≡ true → f 3 ≡ all_below f 4
-unfolding all_below
-all_but_last f one two three = sym (simp (one, two, three))
-
 -- equal tests below decide the same
 pub all_below-same : (f g : ℕ → Bool) (n : ℕ) → ((k : ℕ) → k < n → f k ≡ g k) → all_below f n ≡ all_below g n
 unfolding all_below

@@ -12,3 +12,4 @@ pub mod Counts
 pub mod Flats
 pub mod Stores
 pub mod Numbered
+pub mod Chains

@@ -4,11 +4,10 @@ use mathlib.Core.List.{List, [], ◌∷◌}
 use Prim.Native.Nat.{ℕ, ◌≤◌, ◌<◌, min}
 use native.Mathlib.Decide.{dec_le}
 use native.Mathlib.Omega.{arith}
-use lib.Dec.{ltb, eqb}
+use lib.Dec.{eqb}
 use lib.ListN.{length, take, get_or, length-take}
 use lib.Seq.{take_all, take-suc, length-take-le}
 use borrow.Author.Tests.{ne_eqb}
-use Rattle.lists.proofs.Tests.{ltb_same}
 
 module _ {A : Type 0} where
   -- a count past the list takes the whole list
@@ -27,16 +26,9 @@ module _ {A : Type 0} where
       go (yes le) = rw length-take-le
       go (no gt) = ne_eqb _ k (omega (arith, length-take n xs)) ∙ sym (ne_eqb n k (omega arith))
 
-  -- some are taken of a list that has some exactly if the count says some
-  pub some_taken : (xs : List A) (n : ℕ) → 0 < length xs → ltb 0 (length (take n xs)) ≡ ltb 0 n
-  some_taken xs n h = ltb_same 0 (length (take n xs)) 0 n (λ k. omega (arith, length-take n xs)) (λ k. omega (arith, length-take n xs))
-
   -- one, two and three elements, each by its place
   pub take-one : (xs : List A) (n : ℕ) (d : A) → n ≡ 1 → 0 < length xs → take n xs ≡ get_or xs 0 d ∷ []
   take-one xs n d one h = rw (one, take-suc xs 0 d)
 
   pub take-two : (xs : List A) (n : ℕ) (d : A) → n ≡ 2 → 1 < length xs → take n xs ≡ get_or xs 0 d ∷ get_or xs 1 d ∷ []
   take-two xs n d two h = rw (two, take-suc xs 1 d, take-one xs 1 d refl (omega arith))
-
-  pub take_three : (xs : List A) (n : ℕ) (d : A) → n ≡ 3 → 2 < length xs → take n xs ≡ get_or xs 0 d ∷ get_or xs 1 d ∷ get_or xs 2 d ∷ []
-  take_three xs n d three h = rw (three, take-suc xs 2 d, take-two xs 2 d refl (omega arith))

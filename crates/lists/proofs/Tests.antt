@@ -168,14 +168,6 @@ module _ {A : Type 0} where
   any_set_or f xs i a d true h e = any_at f (set xs i a) i d (rw length-set h) (ap f (get_or-set_same xs i a d h) ∙ e)
   any_set_or f xs i a d false h e = any_set f xs i a d e
 
-  -- one element that fails is enough
-  pub all_not_at : (f : A → Bool) (xs : List A) (i : ℕ) (d : A) → i < length xs → f (get_or xs i d) ≡ false → all_of f xs ≡ false
-  all_not_at f xs i d h t = go (all_of f xs) refl
-    where
-      go : (b : Bool) → all_of f xs ≡ b → b ≡ false
-      go true e = absurd (true≢false (sym (all-at f xs i d e h) ∙ t))
-      go false e = refl
-
   -- nothing before the place passes, and the one there does
   pub first_here : (f : A → Bool) (xs : List A) (i : ℕ) (d : A) → i < length xs → any_of f (take i xs) ≡ false → f (get_or xs i d) ≡ true → first_place f xs ≡ i
   unfolding any_of first_place

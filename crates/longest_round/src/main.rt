@@ -2,44 +2,22 @@
 // takes one card: the accepted calls from deal to close are the cards drawn in it and 18 more. A refused call is written.
 #![tactic(auto)]
 
-ghost use Rattle.std.specs.Prelude.{◌≤◌};
-
-use call::pay_line::LINES;
+use answer::outcome::outcome_in;
 use call::{At, Call};
-use cashier::opening::opening;
-use engine::step;
+use cashier::opening::{empty_table, opening};
 use options::Options;
 use script::orders::{Order, begun_order};
+use stage::house::marked;
+use stage::pay_lines::PayLines;
 use std::io;
 use std::io::{BufWriter, Write};
 use table::Table;
 
-// The table, and how many calls it has accepted.
-#[derive(Clone, Copy)]
-struct Play {
-    table: Table,
-    calls: u64,
-}
-
-// Nine seats, one deck, first burn 1, later 0.
+// Nine seats.
 fn house() -> Options {
     Options {
         seats: 9,
-        decks: 1,
-        first: 1,
-        later: 0,
-        hands: 4,
-        aces: 0,
-        double: 1,
-        limit: 0,
-        insurance: 1,
-        five: 0,
-        prize: 1,
-        device: 1,
-        decider: 1,
-        cut: 0,
-        smallest: 2,
-        largest: 100,
+        ..marked()
     }
 }
 
@@ -54,154 +32,101 @@ fn order() -> Order {
     )
 }
 
-// How many cards of an order are lent: its count, which is 416 at most.
-fn lent(count: usize) -> usize
-    ensures { result ≤ 416 }
-{
-    if 416 < count { 416 } else { count }
-}
-
-fn opened<W: Write>(out: &mut W, cards: [u8; 416], count: usize) -> io::Result<Table> {
-    let o = opening(house(), &cards[..lent(count)]);
-    refused(out, o.number)?;
-    Ok(o.table)
-}
-
+// The number is what is printed.
 fn refused<W: Write>(out: &mut W, number: u8) -> io::Result<()> {
-    if number != 0 {
-        return counted(out, b"refused", number as u64);
+    if number == 0 {
+        return Ok(());
     }
-    Ok(())
+    writeln!(out, "refused {number}")
 }
 
-fn counted<W: Write>(out: &mut W, name: &[u8], n: u64) -> io::Result<()> {
-    out.write_all(name)?;
-    writeln!(out, " {n}")
+// The table, how many calls it has accepted, and the arrays that each is lent.
+#[derive(Drop)]
+struct Play {
+    table: Table,
+    calls: u64,
+    lines: PayLines,
 }
 
-// Only an accepted call counts; there are fewer than a thousand.
-fn counting(calls: u64, number: u8) -> u64 {
-    if number != 0 {
-        return calls;
+impl Play {
+    fn open<W: Write>(out: &mut W) -> io::Result<Self> {
+        let opened = outcome_in(&empty_table(), opening(house(), order().as_slice()));
+        refused(out, opened.number)?;
+        Ok(Play {
+            table: opened.table,
+            calls: 0,
+            lines: PayLines::new(),
+        })
     }
-    if calls < 1000 { calls + 1 } else { calls }
-}
 
-// A call on it.
-fn with_call<W: Write>(
-    out: &mut W,
-    p: Play,
-    c: Call,
-    names: &mut [u32; LINES],
-    nets: &mut [i64; LINES],
-) -> io::Result<Play> {
-    let reply = step(p.table, c, b"", names, nets);
-    let answer = reply.answer;
-    refused(out, answer.number)?;
-    let table = reply.table;
-    let calls = counting(p.calls, answer.number);
-    Ok(Play { table, calls })
-}
-
-fn guest(seat: u8, position: u8) -> At {
-    At { seat, position }
-}
-
-// One of three things that all 27 guests do.
-fn by_guest(doing: u8, at: At) -> Call {
-    match doing {
-        0 => Call::Buy(at, 100),
-        1 => Call::Stake(at, 2),
-        _ => Call::Insure(at, 1),
+    // A call; only an accepted one counts.
+    fn call<W: Write>(&mut self, out: &mut W, call: Call) -> io::Result<()> {
+        let reply = self.lines.step(self.table, call, b"");
+        self.table = reply.table;
+        if reply.answer.number == 0 {
+            self.calls = self.calls.saturating_add(1);
+        }
+        refused(out, reply.answer.number)
     }
-}
 
-fn by_all<W: Write>(
-    out: &mut W,
-    p: Play,
-    doing: u8,
-    names: &mut [u32; LINES],
-    nets: &mut [i64; LINES],
-) -> io::Result<Play> {
-    let mut next = p;
-    for k in 0u8..27 {
-        next = with_call(out, next, by_guest(doing, guest(k / 3, k % 3)), names, nets)?;
+    // What all 27 guests do.
+    fn by_all<W: Write, F: Fn(At) -> Call + Drop>(&mut self, out: &mut W, call: F) -> io::Result<()>
+        requires { F.IsAlwaysCallable call }
+    {
+        // The guests' numbers are what is called.
+        for guest in 0u8..27 {
+            let at = At {
+                seat: guest / 3,
+                position: guest % 3,
+            };
+            self.call(out, call(at))?;
+        }
+        Ok(())
     }
-    Ok(next)
-}
 
-fn all_stand<W: Write>(
-    out: &mut W,
-    p: Play,
-    names: &mut [u32; LINES],
-    nets: &mut [i64; LINES],
-) -> io::Result<Play> {
-    let mut next = p;
-    for seat in 0u8..9 {
-        next = with_call(out, next, Call::Stand(guest(seat, 0)), names, nets)?;
+    // A short first round: one seat stakes and stands.
+    fn first_round<W: Write>(&mut self, out: &mut W) -> io::Result<()> {
+        let seated = At {
+            seat: 0,
+            position: 0,
+        };
+        self.call(out, Call::Stake(seated, 2))?;
+        self.call(out, Call::Deal)?;
+        self.call(out, Call::Stand(seated))?;
+        self.call(out, Call::Close)
     }
-    Ok(next)
-}
 
-// A short first round: one seat stakes and stands.
-fn first_round<W: Write>(
-    out: &mut W,
-    p: Play,
-    names: &mut [u32; LINES],
-    nets: &mut [i64; LINES],
-) -> io::Result<Play> {
-    let seated = guest(0, 0);
-    let staked = with_call(out, p, Call::Stake(seated, 2), names, nets)?;
-    let dealt = with_call(out, staked, Call::Deal, names, nets)?;
-    let stood = with_call(out, dealt, Call::Stand(seated), names, nets)?;
-    with_call(out, stood, Call::Close, names, nets)
-}
+    // From deal to close.
+    fn long_round<W: Write>(&mut self, out: &mut W) -> io::Result<()> {
+        self.call(out, Call::Deal)?;
+        self.by_all(out, |at| Call::Insure(at, 1))?;
+        // The seats' numbers are what is called.
+        for seat in 0u8..9 {
+            self.call(out, Call::Stand(At { seat, position: 0 }))?;
+        }
+        self.call(out, Call::Close)
+    }
 
-// From deal to close.
-fn long_round<W: Write>(
-    out: &mut W,
-    p: Play,
-    names: &mut [u32; LINES],
-    nets: &mut [i64; LINES],
-) -> io::Result<Play> {
-    let dealt = with_call(out, p, Call::Deal, names, nets)?;
-    let insured = by_all(out, dealt, 2, names, nets)?;
-    let stood = all_stand(out, insured, names, nets)?;
-    with_call(out, stood, Call::Close, names, nets)
-}
-
-// How many cards of the order are drawn.
-fn drawn(t: Table) -> u64 {
-    let shoe = t.shoe;
-    shoe.drawn as u64
-}
-
-fn less(a: u64, b: u64) -> u64 {
-    if a < b { 0 } else { a - b }
+    // How many cards of the order are drawn.
+    fn drawn(&self) -> usize {
+        self.table.shoe.drawn
+    }
 }
 
 fn main(rt: HostRuntime) -> io::Result<()> {
     let mut out = BufWriter::new(rt.alloc(), io::writer(&rt))?;
-    let mut names = [0u32; LINES];
-    let mut nets = [0i64; LINES];
-    let o = order();
-    let cards = o.cards;
-    let table = opened(&mut out, cards, o.count)?;
-    let filled = with_call(
-        &mut out,
-        Play { table, calls: 0 },
-        Call::Fill(100000),
-        &mut names,
-        &mut nets,
-    )?;
-    let bought = by_all(&mut out, filled, 0, &mut names, &mut nets)?;
-    let first = first_round(&mut out, bought, &mut names, &mut nets)?;
-    let before = by_all(&mut out, first, 1, &mut names, &mut nets)?;
-    let after = long_round(&mut out, before, &mut names, &mut nets)?;
-    let calls = less(after.calls, before.calls);
-    let taken = less(drawn(after.table), drawn(before.table));
-    counted(&mut out, b"accepted calls", calls)?;
-    counted(&mut out, b"cards drawn", taken)?;
-    counted(&mut out, b"difference", less(calls, taken))?;
+    let mut play = Play::open(&mut out)?;
+    play.call(&mut out, Call::Fill(100_000))?;
+    play.by_all(&mut out, |at| Call::Buy(at, 100))?;
+    play.first_round(&mut out)?;
+    play.by_all(&mut out, |at| Call::Stake(at, 2))?;
+    let calls_before = play.calls;
+    let drawn_before = play.drawn();
+    play.long_round(&mut out)?;
+    let calls = play.calls.saturating_sub(calls_before);
+    let drawn = play.drawn().saturating_sub(drawn_before) as u64;
+    writeln!(out, "accepted calls {calls}")?;
+    writeln!(out, "cards drawn {drawn}")?;
+    writeln!(out, "difference {}", calls.saturating_sub(drawn))?;
     out.flush()
 }

@@ -9,20 +9,14 @@ ghost use Rattle.table.specs.Seat.{stake as stake_of, laid as laid_of, prizes as
 use options::Options;
 use payment::prize::prize;
 use payment::wager::wager;
-use rules::seat_hand::{SeatHands, used};
+use rules::seat_hand::SeatHands;
 use table::Seat;
 
 // The wagers of the hands in use.
-fn wagers(stake: u32, hands: SeatHands) -> u64
+pub(crate) fn wagers(stake: u32, hands: SeatHands) -> u64
     ensures { result ≡ sum_of (wager_of stake) (hands_of hands) }
 {
-    let n = used(hands);
-    let mut all: u64 = 0;
-    for i in 0usize..n {
-        let h = hands.places[i];
-        all += wager(stake, h);
-    }
-    all
+    hands.in_use().iter().map(|h| wager(stake, *h)).sum()
 }
 
 // The side stakes of all kinds.
@@ -38,37 +32,25 @@ pub(crate) fn laid_with(s: Seat, wagers: u64) -> u64
     requires { wagers ≡ sum_of (wager_of (stake_of s)) (hands_of s.hands) }
     ensures { result ≡ laid_of s }
 {
-    let money = s.money;
-    let hands = s.hands;
-    let sides = money.sides;
-    let beside = all_sides(sides);
-    if hands.many == 0 {
-        return (money.stake as u64) + beside;
+    let beside = all_sides(s.money.sides);
+    if s.hands.many == 0 {
+        (s.money.stake as u64) + beside
+    } else {
+        wagers + (s.money.insurance as u64) + beside
     }
-    wagers + (money.insurance as u64) + beside
 }
 
 // What the seat has laid.
 pub fn laid(s: Seat) -> u64
     ensures { result ≡ laid_of s }
 {
-    let money = s.money;
-    let hands = s.hands;
-    laid_with(s, wagers(money.stake, hands))
+    laid_with(s, wagers(s.money.stake, s.hands))
 }
 
 // The prizes of the hands in use.
 pub fn prizes(o: Options, s: Seat) -> u64
     ensures { result ≡ prizes_of o s }
 {
-    let money = s.money;
-    let stake = money.stake;
-    let hands = s.hands;
-    let n = used(hands);
-    let mut won: u64 = 0;
-    for i in 0usize..n {
-        let h = hands.places[i];
-        won += prize(o, stake, h);
-    }
-    won
+    let stake = s.money.stake;
+    s.hands.in_use().iter().map(|h| prize(o, stake, *h)).sum()
 }

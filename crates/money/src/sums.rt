@@ -7,7 +7,7 @@ ghost use Rattle.table.specs.Seat.{guest_at, stake as stake_of, purse as purse_o
 ghost use Rattle.money.specs.Sums.{make_sums, no_sums, capped, guest_sums, seat_sums, plus_sums, table_sums};
 ghost use Rattle.money.specs.SumsFit.{SumsFit};
 
-use crate::seat_money::{laid, laid_with, prizes};
+use crate::seat_money::{laid_with, prizes, wagers};
 use options::Options;
 use payment::cover::{cover, side_cover};
 use state::seat::{guest_at, guest_money, no_money, nobody_beside};
@@ -30,11 +30,7 @@ pub struct Sums {
 fn cut(purse: u64) -> u64
     ensures { result ≡ capped purse }
 {
-    if MOST_MONEY < purse {
-        MOST_MONEY + 1
-    } else {
-        purse
-    }
+    purse.min(MOST_MONEY + 1)
 }
 
 // The sums of nobody.
@@ -47,22 +43,6 @@ pub fn no_sums() -> Sums
         prizes: 0,
         cover: 0,
         purses: 0,
-    }
-}
-
-// The sums of one guest.
-pub fn guest_sums(o: Options, s: Seat) -> Sums
-    ensures same { result ≡ guest_sums o s }
-    ensures small { SumsFit 1 result }
-{
-    let money = s.money;
-    let sides = money.sides;
-    Sums {
-        stakes: money.stake as u64,
-        laid: laid(s),
-        prizes: prizes(o, s),
-        cover: cover(money.stake) + side_cover(sides),
-        purses: cut(money.purse),
     }
 }
 
@@ -84,15 +64,21 @@ pub fn played_sums(s: Seat, wagers: u64, prizes: u64) -> Sums
     requires { wagers ≡ sum_of (wager_of (stake_of s)) (hands_of s.hands) }
     ensures { result ≡ make_sums (stake_of s) (laid_of s) prizes (seat_cover s) (capped (purse_of s)) }
 {
-    let money = s.money;
-    let sides = money.sides;
     Sums {
-        stakes: money.stake as u64,
+        stakes: s.money.stake as u64,
         laid: laid_with(s, wagers),
         prizes,
-        cover: cover(money.stake) + side_cover(sides),
-        purses: cut(money.purse),
+        cover: cover(s.money.stake) + side_cover(s.money.sides),
+        purses: cut(s.money.purse),
     }
+}
+
+// The sums of one guest.
+pub fn guest_sums(o: Options, s: Seat) -> Sums
+    ensures same { result ≡ guest_sums o s }
+    ensures small { SumsFit 1 result }
+{
+    played_sums(s, wagers(s.money.stake, s.hands), prizes(o, s))
 }
 
 // The sums of two groups of guests together. Public for passes over the 27 alone: so it asks that both are sums of at most 27.
@@ -110,21 +96,13 @@ pub fn plus(a: Sums, b: Sums) -> Sums
     }
 }
 
-// The sums with those of one guest more. Not by `plus`: `guest_sums` called at one place is put into the pass that tests every table.
+// The sums with those of one guest more.
 fn with_guest_sums(all: Sums, o: Options, s: Seat) -> Sums
     requires { SumsFit 26 all }
     ensures same { result ≡ plus_sums all (guest_sums o s) }
     ensures small { SumsFit 1 (guest_sums o s) }
 {
-    let money = s.money;
-    let sides = money.sides;
-    Sums {
-        stakes: all.stakes + (money.stake as u64),
-        laid: all.laid + laid(s),
-        prizes: all.prizes + prizes(o, s),
-        cover: all.cover + (cover(money.stake) + side_cover(sides)),
-        purses: all.purses + cut(money.purse),
-    }
+    plus(all, guest_sums(o, s))
 }
 
 // The same for a guest beside the seated one; one who has nothing is passed over.
@@ -135,9 +113,10 @@ fn with_other_sums(all: Sums, o: Options, s: Seat, p: u8) -> Sums
     ensures small { SumsFit 1 (guest_sums o (guest_at s p)) }
 {
     if no_money(guest_money(s, p)) {
-        return all;
+        all
+    } else {
+        with_guest_sums(all, o, guest_at(s, p))
     }
-    with_guest_sums(all, o, guest_at(s, p))
 }
 
 // The sums with those of one seat more.
@@ -147,8 +126,7 @@ fn with_seat_sums(all: Sums, o: Options, s: Seat) -> Sums
     ensures small { SumsFit 3 (seat_sums o s) }
 {
     let seated = with_guest_sums(all, o, s);
-    let others = s.others;
-    if nobody_beside(others) {
+    if nobody_beside(s.others) {
         return seated;
     }
     let two = with_other_sums(seated, o, s, 1);
@@ -159,12 +137,9 @@ fn with_seat_sums(all: Sums, o: Options, s: Seat) -> Sums
 pub fn table_sums(t: Table) -> Sums
     ensures { result ≡ table_sums t }
 {
-    let o = t.options;
     let mut all = no_sums();
-    let seats = t.seats;
-    for i in 0usize..9 {
-        let s = seats[i];
-        all = with_seat_sums(all, o, s);
+    for s in &t.seats {
+        all = with_seat_sums(all, t.options, *s);
     }
     all
 }

@@ -26,6 +26,7 @@ pub fn is_machine(o: Options) -> bool
 }
 
 // How many cards the bank has from the deal on.
+#[tactic(auto, unfolding(crate::specs::Device::bank_at_deal))]
 pub fn bank_at_deal(o: Options) -> u8
     ensures { result ≡ bank_at_deal o }
 {

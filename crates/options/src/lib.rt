@@ -11,7 +11,8 @@ ghost use Rattle.options.specs.Ranges.{within as is_within, range as range_of, m
 
 use crate::device::{is_box, is_shoe};
 
-// The options in document 01's order. Every value is taken: `in_range` says whether a table may open with them.
+// The options in document 01's order. Every value is taken: `in_range` says whether a table may open with them. So a kind is the byte that C hands over and no enum,
+// which has no place for the other bytes.
 #[repr(C)]
 #[derive(Clone, Copy)]
 pub struct Options {
@@ -38,6 +39,7 @@ pub struct Options {
     // Special prize: 0 or 1.
     pub prize: u8,
     // Device: 1 shoe, 2 box (one deck, no later burn), 3 machine.
+    // Here and in the other options a byte and no enum: C hands over any byte, and the opening refuses (1) those that name nothing.
     pub device: u8,
     // Who decides for a seat of several guests: 1 the seated guest, 2 the largest stake.
     pub decider: u8,
@@ -109,6 +111,7 @@ fn small(value: u8, least: u32, most: u32) -> Bounds
 }
 
 // The options with their ranges, in document 01's order.
+#[tactic(auto, unfolding(crate::specs::Ranges::ranges))]
 fn ranges(o: Options) -> [Bounds; 16]
     ensures { result ≡ ranges_of o }
 {
@@ -135,24 +138,13 @@ fn ranges(o: Options) -> [Bounds; 16]
 fn all_within(rs: [Bounds; 16]) -> bool
     ensures { result ≡ all_of is_within rs }
 {
-    for i in 0usize..16 {
-        let r = rs[i];
-        if !within(r) {
-            return false;
-        }
-    }
-    true
+    rs.iter().all(|r| within(*r))
 }
 
 // Whether a table may open with these options.
+#[tactic(auto, unfolding(crate::specs::Ranges::in_range))]
 pub fn in_range(o: Options) -> bool
     ensures { result ≡ in_range o }
 {
-    if !all_within(ranges(o)) {
-        return false;
-    }
-    if o.smallest % 2 != 0 {
-        return false;
-    }
-    o.largest % 2 == 0
+    all_within(ranges(o)) && (o.smallest % 2 == 0 && o.largest % 2 == 0)
 }

@@ -5,6 +5,7 @@ ghost use Rattle.options.specs.Permitted.{stake_permitted, insurance_permitted, 
 use crate::Options;
 
 // A stake within the options, and even.
+#[tactic(auto, unfolding(crate::specs::Permitted::stake_permitted))]
 pub fn stake_permitted(o: Options, stake: u64) -> bool
     ensures { result ≡ stake_permitted o stake }
 {
@@ -12,6 +13,7 @@ pub fn stake_permitted(o: Options, stake: u64) -> bool
 }
 
 // An insurance of a stake: exactly half of it, or half to whole. One above the stake is neither, and is tested first so that no double wraps.
+#[tactic(auto, unfolding(crate::specs::Permitted::insurance_permitted))]
 pub fn insurance_permitted(o: Options, stake: u32, amount: u64) -> bool
     ensures { result ≡ insurance_permitted o stake amount }
 {
@@ -26,6 +28,7 @@ pub fn insurance_permitted(o: Options, stake: u32, amount: u64) -> bool
 }
 
 // A side stake: 1 to 100,000 (request 2.6).
+#[tactic(auto, unfolding(crate::specs::Permitted::side_permitted))]
 pub fn side_permitted(amount: u64) -> bool
     ensures { result ≡ side_permitted amount }
 {

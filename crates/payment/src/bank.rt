@@ -4,6 +4,8 @@ ghost use Rattle.cards.specs.Hand.{cards_of};
 ghost use Rattle.payment.specs.Bank.{must_draw, score_of};
 
 use cards::hand::Hand;
+use cards::natural::is_natural;
+use cards::total::total;
 
 // The bank's total, and whether its two cards are a natural.
 #[derive(Clone, Copy)]
@@ -12,17 +14,18 @@ pub struct Score {
     pub natural: bool,
 }
 
+#[tactic(auto, unfolding(crate::specs::Bank::must_draw))]
 pub fn must_draw(h: Hand) -> bool
     ensures { result ≡ must_draw (cards_of h) }
 {
-    cards::total::total(h) <= 16
+    total(h) <= 16
 }
 
 pub fn score_of(h: Hand) -> Score
     ensures { result ≡ score_of (cards_of h) }
 {
     Score {
-        total: cards::total::total(h),
-        natural: cards::natural::is_natural(h),
+        total: total(h),
+        natural: is_natural(h),
     }
 }

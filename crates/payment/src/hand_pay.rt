@@ -8,75 +8,72 @@ ghost use Rattle.payment.specs.HandPay.{by_totals, against_natural, against_bank
 use crate::bank::Score;
 use crate::pay::Pay;
 use crate::wager::wager;
+use cards::total::total;
 use options::Options;
 use rules::seat_hand::{BY_DOUBLE, BY_EVEN, BY_FIVE, BY_SURRENDER, SeatHand, is_natural};
+use std::cmp::Ordering;
 
-// By totals, neither above 21: the margin is 21 where they are equal.
+// By totals, neither above 21.
+#[tactic(auto, unfolding(crate::specs::HandPay::by_totals))]
 fn by_totals(laid: u64, mine: u32, bank: u32) -> u64
     requires { (laid ≤ 8589934592) × (mine ≤ 21) × (bank ≤ 21) }
     ensures { result ≡ by_totals laid mine bank }
 {
-    let margin = 21 + mine - bank;
-    match margin {
-        0..=20 => 0,
-        21 => laid,
-        _ => laid + laid,
+    match mine.cmp(&bank) {
+        Ordering::Less => 0,
+        Ordering::Equal => laid,
+        Ordering::Greater => laid + laid,
     }
 }
 
 // A bank natural: all is lost, but a limited doubled loss is the stake.
+#[tactic(auto, unfolding(crate::specs::HandPay::against_natural))]
 fn against_natural(o: Options, stake: u32, laid: u64, h: SeatHand) -> u64
     requires { stake ≤ laid }
     ensures { result ≡ against_natural o stake laid (played_of h) }
 {
-    if h.ended != BY_DOUBLE {
-        return 0;
+    if h.ended == BY_DOUBLE && o.limit == 1 {
+        laid - (stake as u64)
+    } else {
+        0
     }
-    if o.limit != 1 {
-        return 0;
-    }
-    laid - (stake as u64)
 }
 
 // A hand that is not bust, of the total `mine`.
+#[tactic(auto, unfolding(crate::specs::HandPay::against_bank))]
 fn against_bank(o: Options, bank: Score, stake: u32, laid: u64, mine: u32, h: SeatHand) -> u64
     requires { (stake ≤ laid) × (laid ≤ 8589934592) × (mine ≤ 21) × (mine ≡ total_of (cards_of h.hand)) }
     ensures { result ≡ against_bank o bank stake laid (played_of h) }
 {
     if is_natural(h) {
-        return if bank.natural {
+        if bank.natural {
             laid
         } else {
             laid + 3 * (stake as u64) / 2
-        };
-    }
-    if bank.natural {
-        return against_natural(o, stake, laid, h);
-    }
-    let total = bank.total;
-    match total {
-        0..=21 => by_totals(laid, mine, total),
-        _ => laid + laid,
+        }
+    } else if bank.natural {
+        against_natural(o, stake, laid, h)
+    } else if 21 < bank.total {
+        laid + laid
+    } else {
+        by_totals(laid, mine, bank.total)
     }
 }
 
 // The pay of a hand of this stake against the bank's score.
+#[tactic(auto, using(crate::proofs::Bounds::wager_bounds), unfolding(crate::specs::HandPay::hand_back))]
 pub fn hand_pay(o: Options, bank: Score, stake: u32, h: SeatHand) -> Pay
     ensures { result ≡ hand_pay o bank stake (played_of h) }
 {
     let laid = wager(stake, h);
     let s = stake as u64;
-    let hand = h.hand;
-    let mine = cards::total::total(hand);
-    let ended = h.ended;
-    let back = match ended {
+    let mine = total(h.hand);
+    let back = match h.ended {
         BY_SURRENDER => laid - s / 2,
         BY_EVEN => laid + s,
         BY_FIVE => laid + s / 2,
-        _ => match mine {
-            0..=21 => against_bank(o, bank, stake, laid, mine, h),
-            _ => 0,
-        },
+        _ if 21 < mine => 0,
+        _ => against_bank(o, bank, stake, laid, mine, h),
     };
     Pay { laid, back }
 }

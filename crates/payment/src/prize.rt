@@ -4,19 +4,18 @@ ghost use Rattle.rules.specs.SeatHand.{played_of};
 ghost use Rattle.payment.specs.Prize.{prize as prize_of};
 
 use crate::wager::wager;
+use cards::prize_hand::is_prize_hand;
 use options::Options;
 use rules::seat_hand::SeatHand;
 
 // Three times the wager for three sevens or a suited 6-7-8, if the option is on.
+#[tactic(auto, using(crate::proofs::Bounds::wager_bounds), unfolding(crate::specs::Prize::prize))]
 pub fn prize(o: Options, stake: u32, h: SeatHand) -> u64
     ensures { result ≡ prize_of o stake (played_of h) }
 {
-    let hand = h.hand;
-    if o.prize != 1 {
-        return 0;
+    if o.prize == 1 && is_prize_hand(h.hand) {
+        3 * wager(stake, h)
+    } else {
+        0
     }
-    if !cards::prize_hand::is_prize_hand(hand) {
-        return 0;
-    }
-    3 * wager(stake, h)
 }

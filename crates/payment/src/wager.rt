@@ -6,6 +6,7 @@ ghost use Rattle.payment.specs.Wager.{wager as wager_of};
 use rules::seat_hand::{BY_DOUBLE, SeatHand};
 
 // Twice the stake after a double, else the stake.
+#[tactic(auto, unfolding(crate::specs::Wager::wager))]
 pub fn wager(stake: u32, h: SeatHand) -> u64
     ensures { result ≡ wager_of stake (played_of h) }
 {

@@ -1,205 +1,134 @@
 // What the rehearsal writes: a line for each call, then the table or the pay lines that a row asks for.
-ghost use Rattle.std.specs.Prelude.{◌≤◌, ◌+◌, length};
-
-use answer::reply::Answer;
+use crate::calls::Called;
 use answer::scores::Scores;
-use call::pay_line::{HAND, LINES, line_kind, line_place, line_position, line_seat};
-use display::hand::{HandShown, shown_hand};
+use call::At;
+use cards::score::HandScore;
+use display::hand::shown_hand;
 use display::seat::shown_seat;
 use display::{shown_table, shown_turn};
-use stage::write::{cards, counted, figure, line_at, net, score, words};
-use std::io;
+use rules::seat_hand::{BY_DOUBLE, BY_EVEN, BY_STAND, BY_SURRENDER, DEALT, NOT_ENDED, SPLIT};
+use stage::Stage;
+use stage::shown::{Cards, Total};
 use std::io::Write;
+use std::{fmt, io};
 use table::Table;
 
 // What the script says of the rows that follow.
 pub(crate) fn heading<W: Write>(out: &mut W, text: &[u8]) -> io::Result<()> {
-    words(out, text)?;
-    words(out, b"\n")
+    out.write_all(text)?;
+    writeln!(out)
 }
 
-// Number, tray, layout, all purses, cards left, and the words of the script, after the name of the call.
-fn figures<W: Write>(out: &mut W, number: u8, t: Table, what: &[u8]) -> io::Result<()> {
+// Name and number of a call, tray, layout, all purses, cards left, and the words of the script.
+// The number is what is printed, here and below.
+fn figures<W: Write>(out: &mut W, name: &str, number: u8, t: Table, what: &[u8]) -> io::Result<()> {
     let shown = shown_table(t);
-    figure(out, number as u64)?;
-    figure(out, shown.tray)?;
-    figure(out, shown.layout)?;
-    figure(out, shown.purses)?;
-    figure(out, shown.left as u64)?;
-    words(out, b" | ")?;
-    words(out, what)?;
-    words(out, b"\n")
+    write!(out, "{name} {number} {} {} ", shown.tray, shown.layout)?;
+    write!(out, "{} {} | ", shown.purses, shown.left)?;
+    heading(out, what)
 }
 
 // The line of an opening.
 pub(crate) fn opened<W: Write>(out: &mut W, number: u8, t: Table, what: &[u8]) -> io::Result<()> {
-    words(out, b"open")?;
-    figures(out, number, t, what)
+    figures(out, "open", number, t, what)
 }
 
-// What a pay line is for, by its kind; the words stand eleven letters apart.
-fn purpose<W: Write>(out: &mut W, kind: u8) -> io::Result<()> {
-    let at = 11 * most(kind, 5);
-    line_at(
-        out,
-        b" hand\n      insurance\n pair\n      sevens\n    more\n      less\n",
-        at,
-    )
-}
+// A guest who is not the seated one, by position.
+#[derive(Clone, Copy)]
+struct Beside(u8);
 
-// The position of a guest, where it is not the seated one.
-fn guest<W: Write>(out: &mut W, position: u8) -> io::Result<()> {
-    if position != 0 {
-        return counted(out, b" guest", position as u64);
-    }
-    Ok(())
-}
-
-fn pay_line<W: Write>(out: &mut W, name: u32, n: i64) -> io::Result<()> {
-    let kind = line_kind(name);
-    counted(out, b"  seat", line_seat(name) as u64)?;
-    guest(out, line_position(name))?;
-    purpose(out, kind)?;
-    if kind == HAND {
-        figure(out, line_place(name) as u64)?;
-    }
-    net(out, n)?;
-    words(out, b"\n")
-}
-
-fn pay_lines<W: Write>(
-    out: &mut W,
-    names: &[u32; LINES],
-    nets: &[i64; LINES],
-    n: usize,
-) -> io::Result<()> {
-    for i in 0usize..LINES {
-        if i < n {
-            pay_line(out, names[i], nets[i])?;
+impl fmt::Display for Beside {
+    fn fmt<W: fmt::Write>(&self, f: &mut fmt::Formatter<W>) -> fmt::Result {
+        match self.0 {
+            0 => Ok(()),
+            position => write!(f, " guest {position}"),
         }
     }
-    Ok(())
 }
 
 // What close shows: the bank's cards and the pay lines.
-fn settlement<W: Write>(
-    out: &mut W,
-    answer: Answer,
-    names: &[u32; LINES],
-    nets: &[i64; LINES],
-) -> io::Result<()> {
-    let bank = answer.bank;
-    if bank.count == 0 {
+fn settlement<W: Write>(out: &mut W, called: &Called, stage: &Stage) -> io::Result<()> {
+    let answer = called.answer;
+    if answer.bank.count == 0 {
         return Ok(());
     }
-    words(out, b"  bank")?;
-    cards(out, bank)?;
-    words(out, b"\n")?;
-    pay_lines(out, names, nets, answer.lines)
-}
-
-// What a display shows of the bank before close.
-pub(crate) fn bank<W: Write>(out: &mut W, t: Table) -> io::Result<()> {
-    let shown = shown_table(t);
-    words(out, b"  bank shows")?;
-    cards(out, shown.bank)?;
-    words(out, b"\n")
-}
-
-// The place of a letter among letters, or their number where it is none of them.
-fn place(letters: &[u8], letter: u8) -> usize
-    ensures { result ≤ length letters.now }
-{
-    let mut i = 0;
-    while i < letters.len() {
-        if letters[i] == letter {
-            return i;
-        }
-        i += 1;
+    writeln!(out, "  bank {}", Cards(answer.bank))?;
+    for line in stage.lines.first(answer.lines) {
+        write!(out, "  seat {}{} ", line.seat, Beside(line.position))?;
+        writeln!(out, "{} {}", line.purpose, line.net)?;
     }
-    i
-}
-
-// The name of the call that a letter stands for; the names stand ten letters apart.
-fn name<W: Write>(out: &mut W, letter: u8) -> io::Result<()> {
-    let at = 10 * place(b"fcbxsABEFGDindm2pue5CVw", letter);
-    line_at(
-        out,
-        b"fill\n     credit\n   buy\n      cash\n     stake\n    side\n     side\n     side\n     side\n     side\n     deal\n     insure\n   stand\n    draw\n     draw\n     double\n   split\n    surrender\neven\n     five\n     close\n    void\n     down\n     load\n     ",
-        at,
-    )
+    Ok(())
 }
 
 // The line of a call, and what it shows.
 pub(crate) fn called<W: Write>(
     out: &mut W,
-    letter: u8,
-    answer: Answer,
-    names: &[u32; LINES],
-    nets: &[i64; LINES],
-    t: Table,
+    called: &Called,
+    stage: &Stage,
     what: &[u8],
 ) -> io::Result<()> {
-    name(out, letter)?;
-    figures(out, answer.number, t, what)?;
-    settlement(out, answer, names, nets)
+    figures(out, called.name, called.answer.number, stage.table, what)?;
+    settlement(out, called, stage)
 }
 
-// The code as a place, or the last one.
-fn most(code: u8, last: usize) -> usize
-    ensures { result ≤ last }
-{
-    let k = code as usize;
-    if k < last { k } else { last }
+// What a display shows of the bank before close.
+pub(crate) fn bank<W: Write>(out: &mut W, t: Table) -> io::Result<()> {
+    let shown = shown_table(t);
+    writeln!(out, "  bank shows {}", Cards(shown.bank))
 }
 
-// Where a hand comes from and how it ended; the words stand twelve and fourteen letters apart.
-fn state<W: Write>(out: &mut W, origin: u8, ended: u8) -> io::Result<()> {
-    let from = 12 * most(origin, 2);
-    let to = 14 * most(ended, 5);
-    line_at(out, b" dealt\n      split\n      split aces\n", from)?;
-    line_at(
-        out,
-        b" open\n         stood\n        doubled\n      surrendered\n  even\n         five\n        ",
-        to,
-    )
+// Where a hand comes from; any other code is the last of them.
+// The codes here and below are bytes of the display, which C reads.
+fn origin_words(origin: u8) -> &'static str {
+    match origin {
+        DEALT => "dealt",
+        SPLIT => "split",
+        _ => "split aces",
+    }
+}
+
+// How a hand ended.
+fn ended_words(ended: u8) -> &'static str {
+    match ended {
+        NOT_ENDED => "open",
+        BY_STAND => "stood",
+        BY_DOUBLE => "doubled",
+        BY_SURRENDER => "surrendered",
+        BY_EVEN => "even",
+        _ => "five",
+    }
 }
 
 // What the dealer called aloud.
 pub(crate) fn aloud<W: Write>(out: &mut W, s: Scores) -> io::Result<()> {
-    let n = s.count;
-    words(out, b"  aloud")?;
-    if n == 0 {
-        words(out, b" nothing")?;
+    write!(out, "  aloud")?;
+    if s.count == 0 {
+        write!(out, " nothing")?;
     }
-    for i in 0usize..9 {
-        if i < n {
-            let one = s.each[i];
-            score(out, one.total, one.soft)?;
-        }
+    for score in s.each.iter().take(s.count) {
+        write!(out, " {}", Total(*score))?;
     }
-    words(out, b"\n")
+    writeln!(out)
 }
 
-fn hand<W: Write>(out: &mut W, place: usize, h: HandShown) -> io::Result<()> {
-    let held = h.hand;
-    counted(out, b"  hand", place as u64)?;
-    cards(out, held)?;
-    words(out, b" total")?;
-    score(out, h.total, h.soft)?;
-    counted(out, b" wager", h.wager)?;
-    state(out, h.origin, h.ended)?;
-    words(out, b"\n")
+fn hand<W: Write>(out: &mut W, t: Table, at: At, place: usize) -> io::Result<()> {
+    let h = shown_hand(t, at.seat, at.position, place);
+    let total = Total(HandScore {
+        total: h.total,
+        soft: h.soft,
+    });
+    write!(out, "  hand {place} {} total {total} ", Cards(h.hand))?;
+    let origin = origin_words(h.origin);
+    let ended = ended_words(h.ended);
+    writeln!(out, "wager {} {origin} {ended}", h.wager)
 }
 
 // The hands of a seat, in their places, with the wagers of one guest.
-pub(crate) fn hands<W: Write>(out: &mut W, t: Table, seat: u8, position: u8) -> io::Result<()> {
-    let shown = shown_seat(t, seat, position);
-    let n = shown.hands;
-    for place in 0usize..4 {
-        if place < n {
-            hand(out, place, shown_hand(t, seat, position, place))?;
-        }
+pub(crate) fn hands<W: Write>(out: &mut W, t: Table, at: At) -> io::Result<()> {
+    let shown = shown_seat(t, at.seat, at.position);
+    // The place is asked of the engine and printed.
+    for place in 0..shown.hands.min(4) {
+        hand(out, t, at, place)?;
     }
     Ok(())
 }
@@ -208,10 +137,12 @@ pub(crate) fn hands<W: Write>(out: &mut W, t: Table, seat: u8, position: u8) -> 
 pub(crate) fn turn<W: Write>(out: &mut W, t: Table) -> io::Result<()> {
     let shown = shown_turn(t);
     if !shown.somebody {
-        return words(out, b"  nobody's turn\n");
+        return writeln!(out, "  nobody's turn");
     }
-    counted(out, b"  turn of seat", shown.seat as u64)?;
-    guest(out, shown.position)?;
-    counted(out, b" hand", shown.place as u64)?;
-    words(out, b"\n")
+    let guest = Beside(shown.position);
+    writeln!(
+        out,
+        "  turn of seat {}{guest} hand {}",
+        shown.seat, shown.place
+    )
 }

@@ -17,15 +17,14 @@ fn room(alloc: Global) -> Result<Vec<u8>, AllocError> {
 }
 
 fn replay<W: Write>(out: &mut W, file: &[u8]) -> io::Result<()> {
-    let first = open_file(file);
-    if first.number != 0 {
-        let number = first.number;
-        return writeln!(out, "{number}");
+    match open_file(file) {
+        Ok(table) => {
+            out.write_all(b"call no tray layout purses left\n")?;
+            row(out, "open", 0, table)?;
+            each(out, file, table)
+        }
+        Err(why) => writeln!(out, "{}", why.number()),
     }
-    out.write_all(b"call no tray layout purses left\n")?;
-    let t = first.table;
-    row(out, b"open", 0, t)?;
-    each(out, file, t)
 }
 
 fn main(rt: HostRuntime) -> io::Result<()> {

@@ -1,15 +1,15 @@
 -- A step keeps a whole table whole; an opened table is whole; a reader goes on to a later place; and what is left to play, call by call.
-use mathlib.Core.Path.{◌≡◌, sym, ap, ◌∙◌}
-use mathlib.Core.Bool.{true, false, not, cond, true≢false}
+use mathlib.Core.Path.{◌≡◌, refl, sym, ap, ap₂, ◌∙◌}
+use mathlib.Core.Bool.{true, false, not, ◌&&◌, true≢false}
 use mathlib.Core.List.{List, [], ◌∷◌}
-use Prim.Native.Nat.{ℕ, suc, ◌+◌, ◌*◌, ◌%◌, ◌≤◌, ◌<◌}
-use native.Mathlib.Decide.{ℕ_discrete, dec_le}
+use Prim.Native.Nat.{ℕ, suc, ◌%◌, ◌≤◌, ◌<◌}
+use native.Mathlib.Decide.{ℕ_discrete}
 use native.Mathlib.Omega.{arith}
-use borrow.Author.Tests.{eq-eqb, ne_eqb, le-leb, lt-leb, lt-ltb, le-ltb}
-use lib.Dec.{leb}
+use borrow.Author.Tests.{eq-eqb, ne_eqb, lt-ltb}
 use lib.IntN.{ℤ}
-use lib.ListN.{length}
-use Rattle.lists.proofs.Picks.{cond_least}
+use lib.ListN.{length, get_or}
+use Rattle.lists.specs.Tests.{all_of}
+use Rattle.file_spec.specs.Block.{Bytes}
 use Rattle.call.specs.declared.Call.{Call}
 use Rattle.options.specs.declared.Options.{Options}
 use Rattle.table.specs.declared.Table.{Table}
@@ -24,9 +24,8 @@ use Rattle.engine.specs.Step.{step, number, next, conditions, effect}
 use Rattle.engine.specs.Run.{run}
 use Rattle.books.specs.Laws.{Whole}
 use Rattle.books.proofs.Keeps.{keeps}
-use Rattle.file_spec.specs.CallBlock.{is_load_code}
 use Rattle.file_spec.specs.Number.{or_else, file_number}
-use Rattle.file_spec.specs.Reader.{call_place, first_place, code_of, start_of, many_of, place_behind, handed_at, Reads}
+use Rattle.file_spec.specs.Reader.{call_place, first_place, handed_at, Reads}
 use Rattle.replaying.specs.Playing.{play_number, first_table}
 use Rattle.replaying.specs.Aids.Turns.{Rest, Left}
 
@@ -57,36 +56,6 @@ open_whole o order e =
     let good = open_good o order e in
     record { shaped = good.shaped; sound = ap not (facts_sound (opened o order) good.shaped.bank good.sound) }
 
--- where a call is found ten bytes lie, and the place behind it is a later one
-found_inside : (file : List ℕ) (at : ℕ) → (handed_at file at).found ≡ true → at + 10 ≤ length file
-unfolding handed_at
-found_inside file at found = go (dec_le (at + 10) (length file))
-  where
-    go : Dec (at + 10 ≤ length file) → at + 10 ≤ length file
-    go (yes h) = h
-    go (no h) = absurd (true≢false (sym (rw (lt-leb (at + 10) (length file) (omega arith)) at found)))
-
-later_call : (file : List ℕ) (at start : ℕ) → at < start → at < length file → at < call_place file start
-later_call file at start h k = go (dec_le (length file) start)
-  where
-    go : Dec (length file ≤ start) → at < call_place file start
-    go (yes past) = rw (le-ltb start (length file) past) k
-    go (no inside) = rw (lt-ltb start (length file) (omega arith)) (omega arith)
-
-later_place : (file : List ℕ) (at : ℕ) → at < length file → at < place_behind file at
-unfolding place_behind
-later_place file at h =
-    let load = is_load_code (code_of file at) in
-    let blocks : 512 ≤ cond load 1024 512 = cond_least load {k = 512} (omega arith) (omega arith) in
-    let ahead : at < start_of at + cond load 1024 512 = omega arith in
-    cond_least (leb (at % 512 + 10) (10 * many_of file at)) {k = suc at} (omega arith) (later_call file at (start_of at + cond load 1024 512) ahead h)
-
-pub later : (file : List ℕ) (at : ℕ) → (handed_at file at).found ≡ true → at < (handed_at file at).behind
-unfolding handed_at
-later file at found =
-    let inside = found_inside file at found in
-    rw (le-leb (at + 10) (length file) inside) (later_place file at (omega arith))
-
 -- a reader of a file that is not refused begins at its first call
 pub first_call : (file : List ℕ) → file_number file ≡ 0 → call_place file 512 ≡ first_place file
 unfolding first_place
@@ -112,19 +81,6 @@ module _ (file : List ℕ) (at : ℕ) (t : Table) (calls : List Entry) where
       go [] found same = same
       go (e ∷ es) (found, call, order, more) same = absurd (true≢false (sym found ∙ none))
 
-pub none-behind : (file : List ℕ) (at : ℕ) → length file ≤ at → (handed_at file at).found ≡ false
-unfolding handed_at
-none-behind file at h = rw (lt-leb (at + 10) (length file) (omega arith))
-
--- where none is found the reader stays
-pub none_stays : (file : List ℕ) (at : ℕ) → (handed_at file at).found ≡ false → (handed_at file at).behind ≡ at
-unfolding handed_at
-none_stays file at none = go (dec_le (at + 10) (length file))
-  where
-    go : Dec (at + 10 ≤ length file) → (handed_at file at).behind ≡ at
-    go (yes h) = absurd (true≢false (rw (le-leb (at + 10) (length file) h) at none))
-    go (no h) = rw (lt-leb (at + 10) (length file) (omega arith))
-
 -- a file that is not refused has a block
 pub has_block : (file : List ℕ) → file_number file ≡ 0 → 512 ≤ length file
 unfolding file_number
@@ -134,6 +90,12 @@ has_block file e = go (ℕ_discrete (length file) 0) (ℕ_discrete (length file 
     go (yes none) whole = let z : ◌≡◌ {A = ℕ} 24 0 = rw (eq-eqb (length file) 0 none) at e in absurd (omega arith)
     go (no some) (no part) = let z : ◌≡◌ {A = ℕ} 24 0 = rw (ne_eqb (length file) 0 some, ne_eqb (length file % 512) 0 part) at e in absurd (omega arith)
     go (no some) (yes whole) = omega arith
+
+-- a lent file has bytes
+pub all_bytes : (file : List ℕ) → ((i : ℕ) → get_or file i 0 < 256) → Bytes file
+unfolding all_of
+all_bytes [] h = refl
+all_bytes (b ∷ bytes) h = ap₂ ◌&&◌ (lt-ltb b 256 (h 0)) (all_bytes bytes (λ i. h (suc i)))
 
 -- before the first turn all calls are left
 pub begins : (file : List ℕ) (t : Table) (at : ℕ) → play_number file ≡ 0 → t ≡ first_table file → at ≡ call_place file 512 → Left file at t

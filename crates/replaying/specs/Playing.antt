@@ -1,10 +1,12 @@
 -- Request 2.9: "Reading a written session and playing it gives the same books." What playing a file gives: the table that its session opens with, then each call that the reader hands out is a
 -- step, accepted or refused.
-use Rattle.std.specs.Prelude.{◌≡◌, List, ℕ}
+use Rattle.std.specs.Prelude.{◌≡◌, Result, List, ℕ}
+use Rattle.call.specs.declared.refusal.Refusal.{Refusal}
+use Rattle.answer.specs.Outcome.{outcome_in}
 use Rattle.answer.specs.declared.outcome.Outcome.{Outcome}
 use Rattle.table.specs.declared.Table.{Table}
 use Rattle.history.specs.Entry.{Entry}
-use Rattle.cashier_spec.specs.Opening.{open_number, opened}
+use Rattle.cashier_spec.specs.Opening.{open_number, opened, empty_table}
 use Rattle.engine.specs.Run.{run}
 use Rattle.books.specs.Laws.{Whole}
 use Rattle.file_spec.specs.Number.{or_else, file_number}
@@ -18,6 +20,10 @@ play_number file = or_else (file_number file) (open_number (file_options file) (
 
 abbrev pub first_table : List ℕ → Table
 first_table file = opened (file_options file) (file_order file)
+
+-- What is given, as a number and a table; a refused file gives the empty table.
+abbrev pub outcome_of : Result Table Refusal → Outcome
+outcome_of r = outcome_in empty_table r
 
 -- What opening a file gives; at number 0 the table is the opened one, and whole.
 pub record Opened (file : List ℕ) (r : Outcome) : Type 0 where

@@ -5,31 +5,25 @@
 ghost use Rattle.std.specs.Prelude.{◌≡◌};
 ghost use Rattle.answer.specs.Reply.{given_by, given_of};
 ghost use Rattle.engine.specs.Step.{step as step_by};
-ghost use Rattle.books.specs.Laws.{Whole};
-ghost use Rattle.session_file.specs.Reader.{handed_of};
-ghost use Rattle.replaying.specs.Playing.{Opened, Played};
-ghost use Rattle.replaying.specs.Aids.Turns.{Turned};
+ghost use Rattle.books.specs.Laws.{Whole as IsWhole};
+ghost use Rattle.session_file.specs.Reader.{order_of};
+ghost use Rattle.replaying.specs.Playing.{Opened, Played, outcome_of};
 
-use answer::outcome::Outcome;
 use answer::reply::Reply;
 use call::pay_line::LINES;
+use call::refusal::Refusal;
 use cashier::opening::opening;
-use engine::step_checked;
-use session_file::number::file_number;
-use session_file::reader::{Handed, call_at, call_place, file_options, file_order, part};
-use state::empty::no_options;
+use engine::step_whole;
+use session_file::check::check_file;
+use session_file::reader::{Handed, Reader, file_options, file_order, part};
 use table::Table;
+use table::whole::Whole;
 
-// The file's number and the empty table; of a file that is not refused, what its session opens with.
-pub fn open_file(file: &[u8]) -> Outcome
-    ensures { Opened file.now result }
+// What a file's session opens with, or why the file is refused. What passes its check opens.
+pub fn open_file(file: &[u8]) -> Result<Table, Refusal>
+    ensures { Opened file.now (outcome_of result) }
 {
-    let number = file_number(file);
-    if number != 0 {
-        let none = opening(no_options(), b"");
-        let table = none.table;
-        return Outcome { number, table };
-    }
+    check_file(file)?;
     opening(file_options(file), file_order(file))
 }
 
@@ -41,75 +35,28 @@ pub fn play_call(
     names: &mut [u32; LINES],
     nets: &mut [i64; LINES],
 ) -> Reply
-    requires { Whole t }
-    ensures step { given_of result names.new nets.new ≡ given_by (step_by t h.call (handed_of file.now h).order) names.old nets.old }
-    ensures whole { Whole result.table }
+    requires { IsWhole t }
+    ensures step { given_of result names.new nets.new ≡ given_by (step_by t h.call (order_of file.now h)) names.old nets.old }
+    ensures whole { IsWhole result.table }
 {
-    let call = h.call;
-    step_checked(t, call, part(file, h.order, h.cards), names, nets)
+    step_whole(
+        &Whole::new(t),
+        h.call,
+        part(file, h.order, h.cards),
+        names,
+        nets,
+    )
 }
 
-// The table after the call at a place, whether there is one, and the place behind it.
-#[derive(Clone, Copy)]
-pub struct Turn {
-    pub found: bool,
-    pub table: Table,
-    pub behind: usize,
-}
-
-fn call_turn(
-    t: Table,
-    file: &[u8],
-    at: usize,
-    names: &mut [u32; LINES],
-    nets: &mut [i64; LINES],
-) -> Turn
-    requires { Whole t }
-    ensures { Turned file.now at t result }
+// A whole file: the table after all its calls, or why it is refused.
+pub fn play(file: &[u8]) -> Result<Table, Refusal>
+    ensures { Played file.now (outcome_of result) }
 {
-    let h = call_at(file, at);
-    if !h.found {
-        return Turn {
-            found: false,
-            table: t,
-            behind: at,
-        };
+    let mut table = open_file(file)?;
+    let mut names = [0; LINES];
+    let mut nets = [0; LINES];
+    for handed in Reader::of_checked(file) {
+        table = play_call(table, file, handed, &mut names, &mut nets).table;
     }
-    let behind = h.behind;
-    let reply = play_call(t, file, h, names, nets);
-    let table = reply.table;
-    Turn {
-        found: true,
-        table,
-        behind,
-    }
-}
-
-// A whole file: its number, or the table after all its calls.
-pub fn play(file: &[u8]) -> Outcome
-    ensures { Played file.now result }
-{
-    let first = open_file(file);
-    if first.number != 0 {
-        return first;
-    }
-    let mut names = [0u32; LINES];
-    let mut nets = [0i64; LINES];
-    let mut t = first.table;
-    let mut at = call_place(file, 512);
-    while at < file.len() {
-        let r = call_turn(t, file, at, &mut names, &mut nets);
-        t = r.table;
-        if !r.found {
-            return Outcome {
-                number: 0,
-                table: t,
-            };
-        }
-        at = r.behind;
-    }
-    Outcome {
-        number: 0,
-        table: t,
-    }
+    Ok(table)
 }

@@ -7,35 +7,27 @@ ghost use Rattle.rules.specs.Leaving.{permits_even, permits_five, permits_surren
 use crate::open_calls::{even_open, five_open};
 use crate::seat_hand::SeatHand;
 use crate::waits::waits;
+use cards::card::is_ace;
 use options::Options;
 
+#[tactic(auto, unfolding(crate::specs::Leaving::permits_even))]
 pub fn permits_even(o: Options, up: u8, many: usize, h: SeatHand) -> bool
     ensures { result ≡ permits_even o up many (played_of h) }
 {
-    if !waits(o, up, many, h) {
-        return false;
-    }
-    even_open(up, h)
+    waits(o, up, many, h) && even_open(up, h)
 }
 
+#[tactic(auto, unfolding(crate::specs::Leaving::permits_five))]
 pub fn permits_five(o: Options, up: u8, many: usize, h: SeatHand) -> bool
     ensures { result ≡ permits_five o up many (played_of h) }
 {
-    if !waits(o, up, many, h) {
-        return false;
-    }
-    five_open(o, up, h)
+    waits(o, up, many, h) && five_open(o, up, h)
 }
 
 // `late`: someone has drawn, doubled or split in this round.
+#[tactic(auto, unfolding(crate::specs::Leaving::permits_surrender))]
 pub fn permits_surrender(o: Options, up: u8, late: bool, many: usize, h: SeatHand) -> bool
     ensures { result ≡ permits_surrender o up late many (played_of h) }
 {
-    if !waits(o, up, many, h) {
-        return false;
-    }
-    if late {
-        return false;
-    }
-    !cards::card::is_ace(up)
+    waits(o, up, many, h) && (!late && !is_ace(up))
 }

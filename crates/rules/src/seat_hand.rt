@@ -1,10 +1,10 @@
 // A seat's hand: its cards, where it comes from and how it ended; and a seat's hands in their places.
-ghost use Rattle.std.specs.Prelude.{◌≡◌, min};
+ghost use Rattle.std.specs.Prelude.{◌≡◌, min, take};
 ghost use Rattle.rules.specs.SeatHand.{played_of, natural, has_two_cards};
 
 use cards::hand::Hand;
 
-// Where a hand comes from.
+// Where a hand comes from. Here and below bytes and no enum: a hand crosses the C interface, which may hand over any byte, and each has its answer.
 pub const DEALT: u8 = 0;
 
 pub const SPLIT: u8 = 1;
@@ -37,32 +37,38 @@ pub struct SeatHand {
 #[derive(Clone, Copy)]
 pub struct SeatHands {
     pub places: [SeatHand; 4],
+    // An array with its number, as a hand is.
     pub many: u8,
+}
+
+impl SeatHands {
+    // The hands in use by place, without what stands in the places behind them.
+    pub fn in_use(&self) -> &[SeatHand]
+        ensures { result.now ≡ take self.now.many self.now.places }
+    {
+        &self.places[..used(*self)]
+    }
 }
 
 // How many of the four places the seat uses: its count, and four where a damaged count says more.
 pub fn used(s: SeatHands) -> usize
     ensures { result ≡ min s.many 4 }
 {
-    let many = s.many as usize;
-    if many < 4 { many } else { 4 }
+    (s.many as usize).min(4)
 }
 
 // Whether the hand has exactly two cards.
+#[tactic(auto, unfolding(crate::specs::SeatHand::has_two_cards))]
 pub(crate) fn has_two_cards(h: SeatHand) -> bool
     ensures { result ≡ has_two_cards (played_of h) }
 {
-    let hand = h.hand;
-    hand.count == 2
+    h.hand.held_cards().len() == 2
 }
 
 // Whether the hand is a natural: unsplit, two cards, an ace and a ten-value.
+#[tactic(auto, unfolding(crate::specs::SeatHand::natural))]
 pub fn is_natural(h: SeatHand) -> bool
     ensures { result ≡ natural (played_of h) }
 {
-    if h.origin != DEALT {
-        return false;
-    }
-    let hand = h.hand;
-    cards::natural::is_natural(hand)
+    h.origin == DEALT && cards::natural::is_natural(h.hand)
 }

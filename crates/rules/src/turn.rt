@@ -12,18 +12,16 @@ pub fn waiting_place(o: Options, up: u8, s: SeatHands) -> usize
     ensures { result ≡ waiting_place o up (hands_of s) }
 {
     let n = used(s);
-    for i in 0usize..n {
-        let h = s.places[i];
-        if waits(o, up, n, h) {
-            return i;
-        }
-    }
-    n
+    s.in_use()
+        .iter()
+        .position(|h| waits(o, up, n, *h))
+        .unwrap_or(n)
 }
 
 // Whether some hand of the seat waits.
 pub fn seat_waits(o: Options, up: u8, s: SeatHands) -> bool
     ensures { result ≡ seat_waits o up (hands_of s) }
 {
-    waiting_place(o, up, s) < used(s)
+    let n = used(s);
+    s.in_use().iter().any(|h| waits(o, up, n, *h))
 }

@@ -6,60 +6,47 @@ ghost use Rattle.rules.specs.Waits.{is_two_aces, aces_wait, cards_wait, waits as
 
 use crate::open_calls::{even_open, five_open};
 use crate::seat_hand::{NOT_ENDED, SPLIT_ACES, SeatHand};
+use cards::card::is_ace;
 use cards::hand::Hand;
+use cards::total::total;
 use options::Options;
 
+#[tactic(auto, unfolding(lists::specs::Tests::all_of, crate::specs::Waits::is_two_aces))]
 fn is_two_aces(h: Hand) -> bool
     ensures { result ≡ is_two_aces (cards_of h) }
 {
-    if h.count != 2 {
-        return false;
+    match h.held_cards() {
+        [one, other] => is_ace(*one) && is_ace(*other),
+        _ => false,
     }
-    let first = h.cards[0];
-    let second = h.cards[1];
-    if !cards::card::is_ace(first) {
-        return false;
-    }
-    cards::card::is_ace(second)
 }
 
 // A hand from split aces, in a seat of `many` hands.
+#[tactic(auto, unfolding(crate::specs::Waits::aces_wait))]
 fn aces_wait(o: Options, many: usize, h: SeatHand) -> bool
     ensures { result ≡ aces_wait o many (played_of h) }
 {
-    let hand = h.hand;
-    if !is_two_aces(hand) {
-        return false;
-    }
-    if o.aces != 1 {
-        return false;
-    }
-    many < (o.hands as usize)
+    is_two_aces(h.hand) && (o.aces == 1 && many < (o.hands as usize))
 }
 
 // Any other hand, by its cards and the up card.
+#[tactic(auto, unfolding(crate::specs::Waits::cards_wait))]
 fn cards_wait(o: Options, up: u8, h: SeatHand) -> bool
     ensures { result ≡ cards_wait o up (played_of h) }
 {
-    let hand = h.hand;
-    if cards::total::total(hand) < 21 {
-        return true;
-    }
-    if even_open(up, h) {
-        return true;
-    }
-    five_open(o, up, h)
+    total(h.hand) < 21 || (even_open(up, h) || five_open(o, up, h))
 }
 
 // Whether the hand waits, in a seat of `many` hands.
+#[tactic(auto, unfolding(crate::specs::Waits::waits))]
 pub fn waits(o: Options, up: u8, many: usize, h: SeatHand) -> bool
     ensures { result ≡ waits_by o up many (played_of h) }
 {
     if h.ended != NOT_ENDED {
-        return false;
+        false
+    } else if h.origin == SPLIT_ACES {
+        aces_wait(o, many, h)
+    } else {
+        cards_wait(o, up, h)
     }
-    if h.origin == SPLIT_ACES {
-        return aces_wait(o, many, h);
-    }
-    cards_wait(o, up, h)
 }

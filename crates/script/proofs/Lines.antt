@@ -1,32 +1,42 @@
--- Laws of lines: where one ends, looked for letter by letter, and that its end is between its start and the text's end.
-use mathlib.Core.Path.{◌≡◌}
-use mathlib.Core.Bool.{Bool, true, false}
-use mathlib.Core.List.{List, [], ◌∷◌}
-use Prim.Native.Nat.{ℕ, ◌+◌, ◌≤◌, ◌<◌}
-use native.Mathlib.Numerals.{add-one}
-use native.Mathlib.Omega.{arith}
-use lib.ListN.{length, get_or, drop, length-drop, drop_of_length-le}
-use lib.Seq.{drop-cons}
+-- Laws of lines: the place of the first element that passes is the one that std's `position` finds, and a line's end is between its start and the text's end.
+use Rattle.std.proofs.Common.{◌≡◌, refl, ap, ◌∙◌, Bool, true, false, cond, [], ◌∷◌, List, ℕ, suc, ◌+◌, ◌≤◌, length, arith, Some, None, nat_lt}
+use Rattle.std.specs.Option.{unwrap_or}
+use borrow.Author.Tests.{ltb-false}
+use Rattle.std.specs.List.{position, position_or_len}
+use Rattle.std.proofs.lemmas.List.Recursion.{is_position_or_len}
 use Rattle.lists.specs.Tests.{first_place}
 use Rattle.lists.proofs.Picks.{cond_most}
-use Rattle.script.specs.Lines.{ends_line, line_end}
 
-pub ends_here : (text : List ℕ) (i : ℕ) → i < length text → ends_line (get_or text i 0) ≡ true → line_end text i ≡ i
-unfolding first_place
-ends_here text i h e = rw (drop-cons text i 0, e) (omega arith)
+-- what a search gives, read back: where it finds a place, and where it finds none
+found-place : (b : Bool) (n k : ℕ) → cond b (Some n) None ≡ Some k → n ≡ k
+found-place true n k e = ap (λ o. unwrap_or o 0) e
+found-place false n k e = cc
 
-pub ends_later : (text : List ℕ) (i : ℕ) → i < length text → ends_line (get_or text i 0) ≡ false → line_end text (i + 1) ≡ line_end text i
-unfolding first_place
-ends_later text i h e = rw (drop-cons text i 0, e, add-one) (omega arith)
+found-none : (b : Bool) (n : ℕ) → cond b (Some n) None ≡ None → b ≡ false
+found-none true n e = cc
+found-none false n e = refl
 
-pub ends_past : (text : List ℕ) (i : ℕ) → length text ≤ i → line_end text i ≡ i
-unfolding first_place
-ends_past text i h = rw (drop_of_length-le text h) (omega arith)
+module _ {A : Type 0} where
+  place-position_or_len : (f : A → Bool) (xs : List A) → first_place f xs ≡ position_or_len f xs
+  unfolding first_place
+  place-position_or_len f xs = is_position_or_len (first_place f) f (omega arith) step xs
+    where
+      step : (x : A) (rest : List A) → first_place f (x ∷ rest) ≡ cond (f x) 0 (1 + first_place f rest)
+      step x rest = go (f x)
+        where
+          go : (b : Bool) → cond b 0 (suc (first_place f rest)) ≡ cond b 0 (1 + first_place f rest)
+          go true = omega arith
+          go false = omega arith
 
-first_most : (f : ℕ → Bool) (xs : List ℕ) → first_place f xs ≤ length xs
-unfolding first_place
-first_most f [] = omega arith
-first_most f (x ∷ xs) = cond_most (f x) (omega arith) (omega (arith, first_most f xs))
+  place-most : (f : A → Bool) (xs : List A) → first_place f xs ≤ length xs
+  unfolding first_place
+  place-most f [] = omega arith
+  place-most f (x ∷ xs) = cond_most (f x) (omega arith) (omega (arith, place-most f xs))
 
-pub line-within : (text : List ℕ) (i : ℕ) → i ≤ length text → line_end text i ≤ length text
-line-within text i h = omega (arith, first_most ends_line (drop i text), length-drop i text)
+  pub place-some : (f : A → Bool) (xs : List A) (k : ℕ) → position f xs ≡ Some k → first_place f xs ≡ k
+  place-some f xs k h = place-position_or_len f xs ∙ found-place (nat_lt (position_or_len f xs) (length xs)) (position_or_len f xs) k h
+
+  pub place-none : (f : A → Bool) (xs : List A) → position f xs ≡ None → first_place f xs ≡ length xs
+  place-none f xs h =
+      let past = ltb-false (position_or_len f xs) (length xs) (found-none (nat_lt (position_or_len f xs) (length xs)) (position_or_len f xs) h) in
+      omega (arith, place-most f xs, place-position_or_len f xs, past)

@@ -1,16 +1,9 @@
--- Laws of numbers: the letters from a place on, one letter read.
-use mathlib.Core.Path.{◌≡◌}
-use mathlib.Core.List.{List}
-use Prim.Native.Nat.{ℕ, ◌+◌, ◌≤◌, ◌<◌}
-use native.Mathlib.Numerals.{add-one}
-use lib.ListN.{length, get_or, drop, drop_of_length-le}
-use lib.Seq.{drop-cons}
+-- Laws of numbers: reading letter by letter is a fold.
+use Rattle.std.proofs.Common.{◌≡◌, refl, List, [], ◌∷◌, ℕ}
+use Rattle.std.specs.List.{fold}
 use Rattle.script.specs.Number.{with_digit, read_on}
 
-pub read_next : (n : ℕ) (text : List ℕ) (i : ℕ) → i < length text → read_on n (drop i text) ≡ read_on (with_digit n (get_or text i 0)) (drop (i + 1) text)
+pub fold-read_on : (n : ℕ) (text : List ℕ) → fold with_digit n text ≡ read_on n text
 unfolding read_on
-read_next n text i h = rw (add-one, drop-cons text i 0)
-
-pub read_end : (n : ℕ) (text : List ℕ) (i : ℕ) → length text ≤ i → read_on n (drop i text) ≡ n
-unfolding read_on
-read_end n text i h = rw (drop_of_length-le text h)
+fold-read_on n [] = refl
+fold-read_on n (letter ∷ letters) = fold-read_on (with_digit n letter) letters

@@ -1,13 +1,13 @@
-// What the programs read of a script: its lines, numbers and cards. Every text is taken.
+// What the programs read of a script: its numbers and cards, and where its lines end. Every text is taken.
 #![tactic(auto)]
 
 pub mod named;
 pub mod orders;
 
-ghost use Rattle.std.specs.Prelude.{◌≡◌};
+ghost use Rattle.std.specs.Prelude.{◌≡◌, position};
 ghost use Rattle.script.specs.Number.{digit_of, with_digit, number_of};
 ghost use Rattle.script.specs.Cards.{rank_named, suit_named, card_named};
-ghost use Rattle.script.specs.Lines.{line_end};
+ghost use Rattle.script.specs.Lines.{ends_line, line_end};
 
 // The digit, or 0 for any other letter.
 pub fn digit(letter: u8) -> u8
@@ -19,28 +19,24 @@ pub fn digit(letter: u8) -> u8
     }
 }
 
-// The number with one digit more behind it; past 10^15 it takes no more.
+// The number with one digit more behind it, a space left aside; past 10^15 it takes no more.
 fn with_digit(n: u64, letter: u8) -> u64
     ensures { result ≡ with_digit n letter }
 {
     if letter == b' ' {
         return n;
     }
-    if 1000000000000000 < n {
+    if 1_000_000_000_000_000 < n {
         return n;
     }
     10 * n + (digit(letter) as u64)
 }
 
-// The number that the letters write in decimal, spaces left aside.
+// The number that the letters write in decimal.
 pub fn number(text: &[u8]) -> u64
     ensures { result ≡ number_of text.now }
 {
-    let mut n: u64 = 0;
-    for i in 0usize..text.len() {
-        n = with_digit(n, text[i]);
-    }
-    n
+    text.iter().fold(0, |n, letter| with_digit(n, *letter))
 }
 
 // The rank that a letter names: A, 2 to 9, T, J, Q, K; the ace for any other letter.
@@ -76,16 +72,22 @@ pub fn card(first: u8, second: u8) -> u8
     13 * suit(second) + rank(first)
 }
 
+// The place of the first line feed.
+fn first_feed(text: &[u8]) -> Option<usize>
+    ensures { result ≡ position ends_line text.now }
+{
+    text.iter().position(|letter| *letter == b'\n')
+}
+
 // Where the line ends that goes through this place: at the next line feed, or at the text's end.
 pub fn end_of(text: &[u8], at: usize) -> usize
     ensures { result ≡ line_end text.now at }
 {
-    let mut i = at;
-    while i < text.len() {
-        if text[i] == b'\n' {
-            return i;
-        }
-        i += 1;
+    if text.len() <= at {
+        return at;
     }
-    i
+    match first_feed(&text[at..]) {
+        Some(letters) => at + letters,
+        None => text.len(),
+    }
 }

@@ -1,13 +1,24 @@
 // Orders that begin with cards of one's choice: the other faces follow, rising, so that each comes as often as there are decks.
-ghost use Rattle.std.specs.Prelude.{◌≡◌, min};
+ghost use Rattle.std.specs.Prelude.{◌≡◌, min, take};
 ghost use Rattle.lists.specs.Sum.{count_of};
 ghost use Rattle.script.specs.Begun.{empty_order, placed, placed_all, placed_face, begun};
 
-// Cards together with their number, in the array that a load reads.
+use std::iter;
+
+// Cards together with their number, in an array as long as the longest order: so making one takes no memory that may run out.
 #[derive(Clone, Copy)]
 pub struct Order {
     pub cards: [u8; 416],
     pub count: usize,
+}
+
+impl Order {
+    // The cards that are lent to an opening or a load.
+    pub fn as_slice(&self) -> &[u8]
+        ensures { result.now ≡ take (min self.now.count 416) self.now.cards }
+    {
+        &self.cards[..lent(self.count)]
+    }
 }
 
 // No card.
@@ -38,35 +49,21 @@ fn with_next(o: Order, card: u8) -> Order
 fn placed_cards(cards: &[u8]) -> Order
     ensures { result ≡ placed_all empty_order cards.now }
 {
-    let mut next = empty_order();
-    for i in 0usize..cards.len() {
-        next = with_next(next, cards[i]);
-    }
-    next
+    cards.iter().copied().fold(empty_order(), with_next)
 }
 
 // How often a face is among the cards.
 fn seen(cards: &[u8], face: u8) -> usize
     ensures { result ≡ count_of face cards.now }
 {
-    let mut n: usize = 0;
-    for i in 0usize..cards.len() {
-        if cards[i] == face {
-            n += 1;
-        }
-    }
-    n
+    cards.iter().filter(|card| **card == face).count()
 }
 
 // The face as often as it is still to come.
 fn with_face(o: Order, face: u8, decks: usize, used: usize) -> Order
     ensures { result ≡ placed_face o face decks used }
 {
-    let mut next = o;
-    for _ in used..decks {
-        next = with_next(next, face);
-    }
-    next
+    iter::repeat_n(face, decks.saturating_sub(used)).fold(o, with_next)
 }
 
 // The order of these decks that begins with these cards.
@@ -74,6 +71,7 @@ pub fn begun_order(first: &[u8], decks: u8) -> Order
     ensures { result ≡ begun first.now decks }
 {
     let mut next = placed_cards(first);
+    // The faces' numbers are what is put in.
     for face in 0u8..52 {
         next = with_face(next, face, decks as usize, seen(first, face));
     }
@@ -84,5 +82,5 @@ pub fn begun_order(first: &[u8], decks: u8) -> Order
 pub fn lent(count: usize) -> usize
     ensures { result ≡ min count 416 }
 {
-    if count < 416 { count } else { 416 }
+    count.min(416)
 }

@@ -1,3 +1,3 @@
--- Laws of the blocks of a file and of parts of it that the proofs of the code cite.
+-- Laws of blocks and of places that the proofs of the code cite.
 pub mod Blocks
-pub mod Parts
+pub mod Places

@@ -1,4 +1,3 @@
--- Laws of a new shoe, of the cards left and of the discards, as the loops here and in the calls cite them.
-pub mod Filled
+-- Laws of the cards left and of the discards, as the loops in the calls cite them.
 pub mod Left
 pub mod Discards

@@ -7,20 +7,11 @@ ghost use Rattle.shoe.specs.Aids.Empty.{no_cards};
 
 use table::Shoe;
 
-// The card n behind the next one of an order of which so much is drawn, or 0 past its end. The order is lent, so that a loop copies no shoe. Each
-// test is of a number that does not wrap.
+// The card n behind the next one of an order of which so much is drawn, or 0 past its end. The order is lent, so that a loop copies no shoe.
 pub fn card_ahead(order: &[u8], drawn: usize, n: usize) -> u8
     ensures { result ≡ get_or order.now (drawn + n) 0 }
 {
-    let all = order.len();
-    if all <= drawn {
-        return 0;
-    }
-    if all - drawn <= n {
-        return 0;
-    }
-    let at = drawn + n;
-    order[at]
+    order.get(drawn.saturating_add(n)).copied().unwrap_or(0)
 }
 
 // So many cards are drawn. Public for the calls alone, which draw only cards that are left: so it asks that the order has them.
@@ -39,15 +30,13 @@ pub fn discard_drawn(sh: Shoe) -> Shoe
     ensures { result ≡ discard_drawn sh }
 {
     let n = sh.drawn;
-    let order = sh.order;
     let mut discards = sh.discards;
-    for i in 0usize..n {
-        discards[i] = order[i];
+    discards[..n].copy_from_slice(&sh.order[..n]);
+    Shoe {
+        discards,
+        discarded: n,
+        ..sh
     }
-    let mut next = sh;
-    next.discards = discards;
-    next.discarded = n;
-    next
 }
 
 // An array before any card is in it.
@@ -62,16 +51,12 @@ pub fn new_shoe(order: &[u8], begun: u8) -> Shoe
     requires { length order.now ≤ 416 }
     ensures { result ≡ new_shoe begun order.now }
 {
-    let n = order.len();
-    let empty = no_cards();
-    let mut cards = empty;
-    for at in 0usize..n {
-        cards[at] = order[at];
-    }
+    let mut cards = no_cards();
+    cards[..order.len()].copy_from_slice(order);
     Shoe {
         order: cards,
         drawn: 0,
-        discards: empty,
+        discards: no_cards(),
         discarded: 0,
         begun,
     }

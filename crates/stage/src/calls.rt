@@ -1,14 +1,8 @@
-// The calls of a script: the letter says which, the row has seat, position and amount.
-ghost use Rattle.std.specs.Prelude.{◌≤◌, length};
+// The calls of a script by their letters, and by the words that programs write for them.
+ghost use Rattle.std.specs.Prelude.{◌≡◌};
+ghost use Rattle.stage.specs.Names.{name_of};
 
-use crate::Stage;
-use answer::reply::Reply;
-use call::pay_line::LINES;
 use call::{At, Call};
-use engine::step;
-use script::orders::lent;
-use script::{digit, number};
-use table::Table;
 
 // The call that a letter stands for.
 pub fn call_of(letter: u8, at: At, amount: u64) -> Call {
@@ -38,38 +32,28 @@ pub fn call_of(letter: u8, at: At, amount: u64) -> Call {
     }
 }
 
-// A call with the first of these cards for its order.
-fn reply_to(
-    cards: [u8; 416],
-    count: usize,
-    t: Table,
-    c: Call,
-    names: &mut [u32; LINES],
-    nets: &mut [i64; LINES],
-) -> Reply {
-    step(t, c, &cards[..lent(count)], names, nets)
-}
-
-// At 2 stands the seat, at 3 the position (a blank is the seated guest's).
-pub fn guest_of(row: &[u8]) -> At
-    requires { 21 ≤ length row.now }
+// The name of a call.
+pub fn call_name(call: Call) -> &'static str
+    ensures { result.now ≡ name_of call }
 {
-    At {
-        seat: digit(row[2]),
-        position: digit(row[3]),
+    match call {
+        Call::Fill(_) => "fill",
+        Call::Credit(_) => "credit",
+        Call::Buy(..) => "buy",
+        Call::Cash(..) => "cash",
+        Call::Stake(..) => "stake",
+        Call::Deal => "deal",
+        Call::Insure(..) => "insure",
+        Call::Stand(_) => "stand",
+        Call::Draw(_) => "draw",
+        Call::Double(_) => "double",
+        Call::Split(_) => "split",
+        Call::Surrender(_) => "surrender",
+        Call::Even(_) => "even",
+        Call::Five(_) => "five",
+        Call::Close => "close",
+        Call::Void => "void",
+        Call::Load => "load",
+        Call::Side(..) => "side",
     }
-}
-
-// At 4 the amount.
-pub fn amount_of(row: &[u8]) -> u64
-    requires { 21 ≤ length row.now }
-{
-    number(&row[4..20])
-}
-
-// A call on the table of the stage, with the order that was lent last.
-pub fn played(s: Stage, c: Call, names: &mut [u32; LINES], nets: &mut [i64; LINES]) -> Reply {
-    let order = s.order;
-    let cards = order.cards;
-    reply_to(cards, order.count, s.table, c, names, nets)
 }

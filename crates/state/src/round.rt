@@ -8,28 +8,23 @@ use table::Table;
 pub fn is_dealt(t: Table) -> bool
     ensures { result ≡ is_dealt t }
 {
-    let bank = t.bank;
-    0 < bank.count
+    0 < t.bank.count
 }
 
 // The bank's first card, or 0 where it has none.
 pub fn up(t: Table) -> u8
     ensures { result ≡ up_card t }
 {
-    let bank = t.bank;
-    if bank.count == 0 {
-        return 0;
+    if t.bank.count == 0 {
+        0
+    } else {
+        t.bank.cards[0]
     }
-    bank.cards[0]
 }
 
 // The cards of all decks that are not drawn, or 0 where a damaged count says that more are drawn.
 pub fn cards_left(t: Table) -> usize
     ensures { result ≡ cards_left t }
 {
-    let options = t.options;
-    let shoe = t.shoe;
-    let all = 52 * (options.decks as usize);
-    let drawn = shoe.drawn;
-    if all < drawn { 0 } else { all - drawn }
+    (52 * (t.options.decks as usize)).saturating_sub(t.shoe.drawn)
 }

@@ -9,22 +9,12 @@ use options::Options;
 use options::decider::deciding_position;
 use table::{Money, Seat, Table};
 
-// The seat of that number. An arm for each: a place that is known when the program is built costs no copy of the table.
+// The seat of that number.
 pub fn seat_at(t: Table, i: usize) -> Seat
     requires { i < 9 }
     ensures { result ≡ seat_at t i }
 {
-    match i {
-        0 => t.seats[0],
-        1 => t.seats[1],
-        2 => t.seats[2],
-        3 => t.seats[3],
-        4 => t.seats[4],
-        5 => t.seats[5],
-        6 => t.seats[6],
-        7 => t.seats[7],
-        _ => t.seats[8],
-    }
+    t.seats[i]
 }
 
 // The table with that seat in place i; the table itself where it has no such place.
@@ -40,6 +30,7 @@ pub fn with_seat(t: Table, i: usize, s: Seat) -> Table
 }
 
 // The money of the guest in that position. It asks for one of the three.
+#[tactic(auto, unfolding(table::specs::Seat::guest_at))]
 pub fn guest_money(s: Seat, p: u8) -> Money
     requires { p < 3 }
     ensures { result ≡ (guest_at s p).money }
@@ -56,13 +47,14 @@ pub fn guest_at(s: Seat, p: u8) -> Seat
     requires { p < 3 }
     ensures { result ≡ guest_at s p }
 {
-    let money = guest_money(s, p);
-    let mut next = s;
-    next.money = money;
-    next
+    Seat {
+        money: guest_money(s, p),
+        ..s
+    }
 }
 
 // The seat with other money of the guest in that position; the seat itself where there is no such position.
+#[tactic(auto, unfolding(table::specs::Seat::with_guest))]
 pub fn with_guest(s: Seat, p: u8, m: Money) -> Seat
     ensures { result ≡ with_guest s p m }
 {
@@ -83,33 +75,30 @@ pub fn with_guest(s: Seat, p: u8, m: Money) -> Seat
 }
 
 // The position of the guest who decides for the seat.
+#[tactic(auto, unfolding(table::specs::Seat::guest_at))]
 pub fn decider(o: Options, s: Seat) -> u8
     ensures { result ≡ decider_of o s }
 {
-    let seated = s.money;
-    let one = s.others[0];
-    let other = s.others[1];
-    deciding_position(o, seated.stake, one.stake, other.stake)
+    deciding_position(o, s.money.stake, s.others[0].stake, s.others[1].stake)
 }
 
 // No side stake lies there.
 pub fn no_sides(sides: [u32; 4]) -> bool
     ensures { result ≡ all_below (λ k. eqb (get_or sides k 0) 0) 4 }
 {
-    sides[0] == 0 && (sides[1] == 0 && (sides[2] == 0 && sides[3] == 0))
+    sides == [0; 4]
 }
 
-// A guest without purse and stakes: nobody.
+// A guest without purse and stakes: nobody. Here and below there is no branch: the compiler joins the tests of a seat, which are passed nearly always.
 pub fn no_money(m: Money) -> bool
     ensures { result ≡ is_nobody m }
 {
-    let sides = m.sides;
-    m.purse == 0 && (m.stake == 0 && (m.insurance == 0 && no_sides(sides)))
+    (m.purse == 0) & (m.stake == 0) & (m.insurance == 0) & no_sides(m.sides)
 }
 
 // Whether nobody bets on a seat beside the seated guest, as on most: who goes through all guests passes both others over at once.
 pub fn nobody_beside(others: [Money; 2]) -> bool
     ensures { result ≡ nobody_in others }
 {
-    no_money(others[0]) && no_money(others[1])
+    no_money(others[0]) & no_money(others[1])
 }

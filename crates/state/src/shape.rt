@@ -14,14 +14,14 @@ fn money_shape(m: Money)
     ensures { length m.sides ≡ 4 }
 {}
 
+#[tactic(auto, unfolding(table::specs::Seat::guest_at))]
 fn seat_shape(s: Seat)
     ensures { ShapedSeat s }
 {
-    let hands = s.hands;
-    hand_shape(hands.places[0]);
-    hand_shape(hands.places[1]);
-    hand_shape(hands.places[2]);
-    hand_shape(hands.places[3]);
+    hand_shape(s.hands.places[0]);
+    hand_shape(s.hands.places[1]);
+    hand_shape(s.hands.places[2]);
+    hand_shape(s.hands.places[3]);
     money_shape(s.money);
     money_shape(s.others[0]);
     money_shape(s.others[1]);
@@ -30,8 +30,7 @@ fn seat_shape(s: Seat)
 pub fn table_shape(t: Table)
     ensures { Shaped t }
 {
-    let seats = t.seats;
-    for i in 0usize..9 {
-        seat_shape(seats[i]);
+    for s in &t.seats {
+        seat_shape(*s);
     }
 }

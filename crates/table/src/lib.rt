@@ -1,6 +1,8 @@
 // The table: options, tray, nine seats, the bank's hand and the shoe. It holds no enum and no bool, and nothing that can be derived.
 #![tactic(auto)]
 
+pub mod whole;
+
 use cards::hand::Hand;
 use options::Options;
 use rules::seat_hand::SeatHands;

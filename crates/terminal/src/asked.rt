@@ -1,18 +1,9 @@
-// What a line says behind the name of a call: a seat, an amount, both or nothing. What it does not say well is told in a sentence.
-use crate::amounts::{Amount, Guest, amount_in, guest_in};
-use crate::words::{head, is_empty, rest};
+// What a line needs and does not say well is told in a sentence.
+use crate::amounts::{amount_in, guest_in};
+use crate::words::Words;
 use call::At;
-use stage::write::words;
-use std::io;
 use std::io::Write;
-
-// Whether it is all there, and what it is; 0 stands where nothing is asked.
-#[derive(Clone, Copy)]
-pub(crate) struct Asked {
-    pub good: bool,
-    pub at: At,
-    pub amount: u64,
-}
+use std::{fmt, io};
 
 pub(crate) fn first_guest() -> At {
     At {
@@ -21,105 +12,80 @@ pub(crate) fn first_guest() -> At {
     }
 }
 
-// The word is none of these, or missing.
-pub(crate) fn no_such<W: Write>(out: &mut W, word: &[u8], what: &[u8]) -> io::Result<()> {
-    if word.len() == 0 {
-        words(out, b"That line needs ")?;
-        return words(out, what);
+// What a word of the line should be.
+#[derive(Clone, Copy, Debug, PartialEq, Eq)]
+pub(crate) enum Needed {
+    KnownWord,
+    Amount,
+    Seat,
+    House,
+    Cards,
+    FileName,
+    SessionFile,
+    NewFile,
+    ReadableFile,
+}
+
+impl fmt::Display for Needed {
+    fn fmt<W: fmt::Write>(&self, f: &mut fmt::Formatter<W>) -> fmt::Result {
+        f.write_str(match self {
+            Needed::KnownWord => "a word that this table knows: help lists them",
+            Needed::Amount => "an amount: a number of at most 16 digits",
+            Needed::Seat => "a seat: a number as 2, or 2.1 for position 1 of seat 2",
+            Needed::House => "a house: houses lists them",
+            Needed::Cards => {
+                "cards: at most 64, each a rank A 2 to 9 T J Q K and a suit a to d, as 7a9d7b"
+            }
+            Needed::FileName => "the name of a new file",
+            Needed::SessionFile => "the name of a session file",
+            Needed::NewFile => "a name that a new file can have here",
+            Needed::ReadableFile => "the name of a file that can be read here",
+        })
     }
-    words(out, b"\"")?;
-    words(out, word)?;
-    words(out, b"\" is not ")?;
-    words(out, what)
+}
+
+// Why a line says nothing well.
+#[derive(Clone, Copy)]
+pub(crate) enum Fault<'a> {
+    Missing(Needed),
+    Wrong(&'a [u8], Needed),
+    TooMuch,
+}
+
+impl Fault<'_> {
+    // A word may be any bytes, so the sentence goes to a writer: text alone could not hold it.
+    pub(crate) fn tell<W: Write>(&self, out: &mut W) -> io::Result<()> {
+        match self {
+            Fault::Missing(needed) => writeln!(out, "That line needs {needed}."),
+            Fault::Wrong(word, needed) => {
+                write!(out, "\"")?;
+                out.write_all(word)?;
+                writeln!(out, "\" is not {needed}.")
+            }
+            Fault::TooMuch => writeln!(out, "There is more on that line than it needs."),
+        }
+    }
+}
+
+// The next word; it may not be missing.
+pub(crate) fn word_of<'a>(words: &mut Words<'a>, needed: Needed) -> Result<&'a [u8], Fault<'a>> {
+    words.next().ok_or(Fault::Missing(needed))
+}
+
+pub(crate) fn amount_of<'a>(words: &mut Words<'a>) -> Result<u64, Fault<'a>> {
+    let word = word_of(words, Needed::Amount)?;
+    amount_in(word).ok_or(Fault::Wrong(word, Needed::Amount))
+}
+
+pub(crate) fn guest_of<'a>(words: &mut Words<'a>) -> Result<At, Fault<'a>> {
+    let word = word_of(words, Needed::Seat)?;
+    guest_in(word).ok_or(Fault::Wrong(word, Needed::Seat))
 }
 
 // Nothing may stand behind what a line needs.
-pub(crate) fn ends<W: Write>(out: &mut W, behind: &[u8]) -> io::Result<bool> {
-    if is_empty(behind) {
-        return Ok(true);
-    }
-    words(out, b"There is more on that line than it needs.\n")?;
-    Ok(false)
-}
-
-pub(crate) fn told_amount<W: Write>(out: &mut W, word: &[u8]) -> io::Result<Amount> {
-    let n = amount_in(word);
-    if !n.good {
-        no_such(out, word, b"an amount: a number of at most 16 digits.\n")?;
-    }
-    Ok(n)
-}
-
-pub(crate) fn told_guest<W: Write>(out: &mut W, word: &[u8]) -> io::Result<Guest> {
-    let g = guest_in(word);
-    if !g.good {
-        no_such(
-            out,
-            word,
-            b"a seat: a number as 2, or 2.1 for position 1 of seat 2.\n",
-        )?;
-    }
-    Ok(g)
-}
-
-fn of_amount<W: Write>(out: &mut W, behind: &[u8]) -> io::Result<Asked> {
-    let n = told_amount(out, head(behind))?;
-    Ok(Asked {
-        good: n.good && ends(out, rest(behind))?,
-        at: first_guest(),
-        amount: n.value,
-    })
-}
-
-fn of_guest<W: Write>(out: &mut W, behind: &[u8]) -> io::Result<Asked> {
-    let g = told_guest(out, head(behind))?;
-    Ok(Asked {
-        good: g.good && ends(out, rest(behind))?,
-        at: g.at,
-        amount: 0,
-    })
-}
-
-fn of_both<W: Write>(out: &mut W, behind: &[u8]) -> io::Result<Asked> {
-    let g = told_guest(out, head(behind))?;
-    let at = g.at;
-    if !g.good {
-        return Ok(Asked {
-            good: false,
-            at,
-            amount: 0,
-        });
-    }
-    let n = of_amount(out, rest(behind))?;
-    Ok(Asked {
-        good: n.good,
-        at,
-        amount: n.amount,
-    })
-}
-
-fn of_nothing<W: Write>(out: &mut W, behind: &[u8]) -> io::Result<Asked> {
-    Ok(Asked {
-        good: ends(out, behind)?,
-        at: first_guest(),
-        amount: 0,
-    })
-}
-
-// What a call of that kind needs.
-pub(crate) fn told<W: Write>(out: &mut W, kind: usize, behind: &[u8]) -> io::Result<Asked> {
-    match kind {
-        1 | 2 => of_amount(out, behind),
-        6 | 15 | 16 | 17 => of_nothing(out, behind),
-        8..=14 => of_guest(out, behind),
-        _ => of_both(out, behind),
-    }
-}
-
-// Whether a call of that kind is a guest's.
-pub(crate) fn has_guest(kind: usize) -> bool {
-    match kind {
-        1 | 2 | 6 | 15 | 16 | 17 => false,
-        _ => true,
+pub(crate) fn end_of<'a>(words: &mut Words<'a>) -> Result<(), Fault<'a>> {
+    match words.next() {
+        None => Ok(()),
+        Some(_) => Err(Fault::TooMuch),
     }
 }

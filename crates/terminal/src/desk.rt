@@ -6,11 +6,13 @@ use crate::orders::{Source, by_seed};
 use answer::reply::Answer;
 use call::pay_line::LINES;
 use call::{At, Call};
-use cashier::opening::opening;
+use cashier::opening::empty_table;
 use engine::step;
-use file_writer::writer::{Writer, Written, add, begin};
+use file_block::block::Block;
+use file_writer::writer::Writer;
 use options::Options;
 use state::empty::no_options;
+use std::slice;
 use table::Table;
 
 // The bytes that a session's file may have here, 2048 blocks.
@@ -24,6 +26,7 @@ pub(crate) struct Desk {
     pub source: Source,
     pub writer: Writer,
     pub end: usize,
+    // A fact of the session, with no value beside it.
     pub lost: bool,
     pub guest: At,
     pub over: bool,
@@ -38,16 +41,13 @@ pub(crate) struct Turn {
 
 // The empty table, which a refused opening gives.
 pub(crate) fn empty_desk() -> Desk {
-    let refused = opening(no_options(), b"");
-    let begun = begin(no_options(), b"");
-    let table = refused.table;
-    let writer = begun.writer;
+    let table = empty_table();
     let source = by_seed(1);
     Desk {
         table,
         house: no_options(),
         source,
-        writer,
+        writer: Writer::new(no_options()),
         end: 0,
         lost: false,
         guest: first_guest(),
@@ -55,39 +55,17 @@ pub(crate) fn empty_desk() -> Desk {
     }
 }
 
-// A block laid into the file at that place: the place behind it, or the same where there is no room.
-fn laid(file: &mut [u8; ROOM], at: usize, block: [u8; 512]) -> usize {
-    if ROOM - 512 < at {
-        return at;
-    }
-    for i in 0usize..512 {
-        file[at + i] = block[i];
-    }
-    at + 512
-}
-
-fn with_block(d: Desk, block: [u8; 512], file: &mut [u8; ROOM]) -> Desk {
-    let end = laid(file, d.end, block);
+// The blocks that are complete now, laid behind the others; one that has no room is lost.
+fn with_blocks(d: Desk, blocks: &[Block], file: &mut [u8; ROOM]) -> Desk {
     let mut next = d;
-    if end == d.end {
-        next.lost = true;
-    }
-    next.end = end;
-    next
-}
-
-// The blocks that are complete now, and the writer to go on with.
-fn with_written(d: Desk, w: Written, file: &mut [u8; ROOM]) -> Desk {
-    let writer = w.writer;
-    let first = w.first;
-    let second = w.second;
-    let mut next = d;
-    next.writer = writer;
-    if 0 < w.blocks {
-        next = with_block(next, first, file);
-    }
-    if 1 < w.blocks {
-        next = with_block(next, second, file);
+    for block in blocks {
+        let at = next.end;
+        if at <= ROOM - 512 {
+            file[at..at + 512].copy_from_slice(block);
+            next.end = at + 512;
+        } else {
+            next.lost = true;
+        }
     }
     next
 }
@@ -106,7 +84,17 @@ pub(crate) fn opened(
     next.end = 0;
     next.lost = false;
     next.guest = first_guest();
-    with_written(next, begin(o, order), file)
+    match Writer::begin(o, order) {
+        Ok(begun) => {
+            let block = begun.1;
+            next.writer = begun.0;
+            with_blocks(next, slice::from_ref(&block), file)
+        }
+        Err(_) => {
+            next.writer = Writer::new(o);
+            next
+        }
+    }
 }
 
 // One call; a refused one leaves the desk as it was.
@@ -121,13 +109,16 @@ pub(crate) fn called(
     let before = d.table;
     let reply = step(before, c, order, names, nets);
     let answer = reply.answer;
+    // An answer's number, as C reads it: 0 is accepted.
     if answer.number != 0 {
         return Turn { answer, desk: d };
     }
     let table = reply.table;
-    let writer = d.writer;
     let mut next = d;
     next.table = table;
-    let desk = with_written(next, add(writer, c, order), file);
+    let desk = match next.writer.add(c, order) {
+        Ok(blocks) => with_blocks(next, blocks.as_slice(), file),
+        Err(_) => next,
+    };
     Turn { answer, desk }
 }

@@ -1,17 +1,15 @@
 // The session as a file: saved, and read to be played again.
 ghost use Rattle.std.specs.Prelude.{◌≤◌};
 
-use crate::asked::no_such;
+use crate::asked::{Fault, Needed};
 use crate::desk::{Desk, ROOM, called, opened};
-use crate::names::call_line;
-use crate::numbers::said;
+use crate::names::Typed;
+use crate::numbers::Said;
 use call::pay_line::LINES;
 use display::shown_table;
 use drawing::drawn;
-use file_writer::writer::end;
 use replaying::open_file;
-use session_file::reader::{Handed, call_at, call_place, file_options, file_order, part};
-use stage::write::{counted, words};
+use session_file::reader::{Handed, Reader, file_options, file_order, part};
 use std::fs::OpenOptions;
 use std::io::{Read, Write};
 use std::rt::Files;
@@ -24,15 +22,13 @@ fn room() -> [u8; ROOM] {
 
 // The complete blocks and the one that is still open.
 fn written<F: Write>(d: Desk, blocks: &[u8], to: &mut F) -> bool {
-    let last = end(d.writer);
-    let block = last.block;
     if to.write_all(blocks).is_err() {
         return false;
     }
-    if last.blocks == 0 {
-        return true;
+    match d.writer.end() {
+        Some(block) => to.write_all(&block).is_ok(),
+        None => true,
     }
-    to.write_all(&block).is_ok()
 }
 
 // A new file of that name, where one can be made; a name is text.
@@ -56,6 +52,7 @@ fn read_full<F: Read>(from: &mut F, text: &mut [u8; ROOM]) -> usize
     ensures { result ≤ ROOM }
 {
     let mut done = 0;
+    // A read gives as many bytes as it has, so the place moves by what was read.
     while done < ROOM {
         match from.read(&mut text[done..]) {
             Ok(0) => return done,
@@ -77,12 +74,12 @@ fn into_file<R: Files, W: Write>(
     match new_file(rt, name) {
         Some(mut to) => {
             if written(d, blocks, &mut to) {
-                words(out, b"The session is saved.\n")
+                writeln!(out, "The session is saved.")
             } else {
-                words(out, b"The file could not be written whole.\n")
+                writeln!(out, "The file could not be written whole.")
             }
         }
-        None => no_such(out, name, b"a name that a new file can have here.\n"),
+        None => Fault::Wrong(name, Needed::NewFile).tell(out),
     }
 }
 
@@ -109,7 +106,7 @@ pub(crate) fn saved<R: Files, W: Write>(
     name: &[u8],
 ) -> io::Result<()> {
     if d.lost {
-        return words(out, b"The session is too long for this program to save.\n");
+        return writeln!(out, "The session is too long for this program to save.");
     }
     first_bytes(rt, out, d, file, d.end, name)
 }
@@ -117,11 +114,8 @@ pub(crate) fn saved<R: Files, W: Write>(
 // Tray, layout, purses and cards left.
 fn figures<W: Write>(out: &mut W, t: Table) -> io::Result<()> {
     let shown = shown_table(t);
-    counted(out, b": tray", shown.tray)?;
-    counted(out, b", layout", shown.layout)?;
-    counted(out, b", purses", shown.purses)?;
-    counted(out, b", cards left", shown.left as u64)?;
-    words(out, b"\n")
+    write!(out, ": tray {}, layout {}, ", shown.tray, shown.layout)?;
+    writeln!(out, "purses {}, cards left {}", shown.purses, shown.left)
 }
 
 // One call of the file, with a line of its own.
@@ -138,10 +132,7 @@ fn replayed_call<W: Write>(
     let turn = called(d, call, part(from, h.order, h.cards), file, names, nets);
     let answer = turn.answer;
     let next = turn.desk;
-    words(out, b"  ")?;
-    call_line(out, call)?;
-    words(out, b": ")?;
-    said(out, answer.number)?;
+    write!(out, "  {}: {}", Typed(call), Said(answer.number))?;
     figures(out, next.table)?;
     Ok(next)
 }
@@ -151,14 +142,8 @@ fn each<W: Write>(out: &mut W, d: Desk, from: &[u8], file: &mut [u8; ROOM]) -> i
     let mut names = [0u32; LINES];
     let mut nets = [0i64; LINES];
     let mut next = d;
-    let mut at = call_place(from, 512);
-    while at < from.len() {
-        let h = call_at(from, at);
-        if !h.found {
-            return Ok(next);
-        }
-        next = replayed_call(out, next, from, h, file, &mut names, &mut nets)?;
-        at = h.behind;
+    for handed in Reader::of_checked(from) {
+        next = replayed_call(out, next, from, handed, file, &mut names, &mut nets)?;
     }
     Ok(next)
 }
@@ -170,13 +155,15 @@ fn replayed<W: Write>(
     from: &[u8],
     file: &mut [u8; ROOM],
 ) -> io::Result<Desk> {
-    let first = open_file(from);
-    said(out, first.number)?;
-    words(out, b"\n")?;
-    if first.number != 0 {
-        return Ok(d);
-    }
-    let begun = opened(d, first.table, file_options(from), file_order(from), file);
+    let table = match open_file(from) {
+        Ok(table) => table,
+        Err(why) => {
+            writeln!(out, "{}", Said(why.number()))?;
+            return Ok(d);
+        }
+    };
+    writeln!(out, "{}", Said(0))?;
+    let begun = opened(d, table, file_options(from), file_order(from), file);
     let after = each(out, begun, from, file)?;
     drawn(out, after.table, after.guest)?;
     Ok(after)
@@ -191,13 +178,13 @@ pub(crate) fn from_file<R: Files, W: Write>(
     name: &[u8],
 ) -> io::Result<Desk> {
     let Some(mut from) = old_file(rt, name) else {
-        no_such(out, name, b"the name of a file that can be read here.\n")?;
+        Fault::Wrong(name, Needed::ReadableFile).tell(out)?;
         return Ok(d);
     };
     let mut text = room();
     let n = read_full(&mut from, &mut text);
     if n == ROOM {
-        words(out, b"The file is too long for this program.\n")?;
+        writeln!(out, "The file is too long for this program.")?;
         return Ok(d);
     }
     replayed(out, d, &text[..n], file)

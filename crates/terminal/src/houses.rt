@@ -1,150 +1,126 @@
 // Houses by name, and their options in words.
-use crate::words::{line_start, place_of};
 use options::Options;
-use stage::write::{counted, line_at, words};
-use std::io;
+use stage::house::marked;
 use std::io::Write;
+use std::{fmt, io};
 
-fn house_names() -> [u8; 32] {
-    *b"marked\nmacau\nbox\nmachine\nlargest"
+#[derive(Clone, Copy, Debug, PartialEq, Eq)]
+pub(crate) enum House {
+    // The marked session's (document 01): one deck in a shoe.
+    Marked,
+    // Six decks in a shoe, with every option that gives the guest more.
+    Macau,
+    // A metal box: one deck, the bank's second card face down.
+    MetalBox,
+    // A shuffling machine of four decks.
+    Machine,
+    // Nine seats, eight decks, two burns, the largest stake decides.
+    Largest,
 }
 
-// The place of a house among them, from 1; 0 where there is none of that name.
-pub(crate) fn house_called(word: &[u8]) -> usize {
-    let names = house_names();
-    place_of(word, &names)
-}
+const HOUSES: [House; 5] = [
+    House::Marked,
+    House::Macau,
+    House::MetalBox,
+    House::Machine,
+    House::Largest,
+];
 
-// The marked session's (document 01): one deck in a shoe.
-fn marked() -> Options {
-    Options {
-        seats: 6,
-        decks: 1,
-        first: 1,
-        later: 0,
-        hands: 4,
-        aces: 0,
-        double: 1,
-        limit: 0,
-        insurance: 1,
-        five: 0,
-        prize: 1,
-        device: 1,
-        decider: 1,
-        cut: 0,
-        smallest: 2,
-        largest: 100,
-    }
-}
-
-// Six decks in a shoe, with every option that gives the guest more.
 fn macau() -> Options {
-    let mut o = marked();
-    o.seats = 7;
-    o.decks = 6;
-    o.aces = 1;
-    o.limit = 1;
-    o.insurance = 2;
-    o.five = 1;
-    o.cut = 78;
-    o.smallest = 10;
-    o.largest = 1000;
-    o
-}
-
-// A metal box: one deck, the bank's second card face down.
-fn metal_box() -> Options {
-    let mut o = marked();
-    o.seats = 7;
-    o.device = 2;
-    o
-}
-
-// A shuffling machine of four decks.
-fn machine() -> Options {
-    let mut o = macau();
-    o.decks = 4;
-    o.later = 1;
-    o.device = 3;
-    o.cut = 0;
-    o
-}
-
-// Nine seats, eight decks, two burns, the largest stake decides.
-fn largest() -> Options {
-    let mut o = macau();
-    o.seats = 9;
-    o.decks = 8;
-    o.first = 2;
-    o.later = 2;
-    o.decider = 2;
-    o.cut = 208;
-    o.smallest = 2;
-    o.largest = 1000000;
-    o
-}
-
-// The house in that place.
-pub(crate) fn house_at(place: usize) -> Options {
-    match place {
-        1 => marked(),
-        2 => macau(),
-        3 => metal_box(),
-        4 => machine(),
-        _ => largest(),
+    Options {
+        seats: 7,
+        decks: 6,
+        aces: 1,
+        limit: 1,
+        insurance: 2,
+        five: 1,
+        cut: 78,
+        smallest: 10,
+        largest: 1000,
+        ..marked()
     }
 }
 
-fn device<W: Write>(out: &mut W, device: u8) -> io::Result<()> {
+impl House {
+    pub(crate) fn named(word: &[u8]) -> Option<Self> {
+        HOUSES
+            .iter()
+            .copied()
+            .find(|house| house.name().as_bytes() == word)
+    }
+
+    fn name(self) -> &'static str {
+        match self {
+            House::Marked => "marked",
+            House::Macau => "macau",
+            House::MetalBox => "box",
+            House::Machine => "machine",
+            House::Largest => "largest",
+        }
+    }
+
+    pub(crate) fn options(self) -> Options {
+        match self {
+            House::Marked => marked(),
+            House::Macau => macau(),
+            House::MetalBox => Options {
+                seats: 7,
+                device: 2,
+                ..marked()
+            },
+            House::Machine => Options {
+                decks: 4,
+                later: 1,
+                device: 3,
+                cut: 0,
+                ..macau()
+            },
+            House::Largest => Options {
+                seats: 9,
+                decks: 8,
+                first: 2,
+                later: 2,
+                decider: 2,
+                cut: 208,
+                smallest: 2,
+                largest: 1_000_000,
+                ..macau()
+            },
+        }
+    }
+}
+
+// Options by name.
+#[derive(Clone, Copy)]
+pub(crate) struct Listed(pub(crate) Options);
+
+// The device is the byte of the options.
+fn device_name(device: u8) -> &'static str {
     match device {
-        1 => words(out, b", shoe"),
-        2 => words(out, b", box"),
-        _ => words(out, b", machine"),
+        1 => "shoe",
+        2 => "box",
+        _ => "machine",
     }
 }
 
-fn small<W: Write>(out: &mut W, name: &[u8], n: u8) -> io::Result<()> {
-    counted(out, name, n as u64)
-}
-
-fn cut<W: Write>(out: &mut W, n: u16) -> io::Result<()> {
-    counted(out, b", cut", n as u64)
-}
-
-fn stake<W: Write>(out: &mut W, name: &[u8], n: u32) -> io::Result<()> {
-    counted(out, name, n as u64)
-}
-
-// The options by name.
-pub(crate) fn options_line<W: Write>(out: &mut W, o: Options) -> io::Result<()> {
-    small(out, b"seats", o.seats)?;
-    small(out, b", decks", o.decks)?;
-    device(out, o.device)?;
-    small(out, b", first burn", o.first)?;
-    small(out, b", later burn", o.later)?;
-    small(out, b", hands", o.hands)?;
-    small(out, b", aces again", o.aces)?;
-    small(out, b", double", o.double)?;
-    small(out, b", loss limited", o.limit)?;
-    small(out, b", insurance", o.insurance)?;
-    small(out, b", five cards", o.five)?;
-    small(out, b", prize", o.prize)?;
-    small(out, b", decider", o.decider)?;
-    cut(out, o.cut)?;
-    stake(out, b", stakes", o.smallest)?;
-    stake(out, b" to", o.largest)?;
-    words(out, b"\n")
+impl fmt::Display for Listed {
+    fn fmt<W: fmt::Write>(&self, f: &mut fmt::Formatter<W>) -> fmt::Result {
+        let o = self.0;
+        let device = device_name(o.device);
+        write!(f, "seats {}, decks {}, {device}, ", o.seats, o.decks)?;
+        write!(f, "first burn {}, later burn {}, ", o.first, o.later)?;
+        write!(f, "hands {}, aces again {}, ", o.hands, o.aces)?;
+        write!(f, "double {}, loss limited {}, ", o.double, o.limit)?;
+        write!(f, "insurance {}, five cards {}, ", o.insurance, o.five)?;
+        write!(f, "prize {}, decider {}, ", o.prize, o.decider)?;
+        write!(f, "cut {}, stakes {} to {}", o.cut, o.smallest, o.largest)
+    }
 }
 
 // All houses with their options.
 pub(crate) fn all<W: Write>(out: &mut W) -> io::Result<()> {
-    let names = house_names();
-    let lines: &[u8] = &names;
-    for place in 1usize..6 {
-        words(out, b"  ")?;
-        line_at(out, lines, line_start(lines, place))?;
-        words(out, b": ")?;
-        options_line(out, house_at(place))?;
+    for house in HOUSES {
+        writeln!(out, "  {}: {}", house.name(), Listed(house.options()))?;
     }
     Ok(())
 }

@@ -5,7 +5,7 @@
 mod amounts;
 mod answers;
 mod asked;
-mod carry;
+mod command;
 mod desk;
 mod files;
 mod help;
@@ -29,6 +29,7 @@ fn room() -> [u8; ROOM] {
 fn main(rt: HostRuntime) -> io::Result<()> {
     let mut file = room();
     let mut out = BufWriter::new(rt.alloc(), io::writer(&rt))?;
-    session(&rt, &mut rt.stdin(), &mut out, &mut file)?;
+    let line = Vec::new(rt.alloc());
+    session(&rt, &mut rt.stdin(), &mut out, line, &mut file)?;
     out.flush()
 }

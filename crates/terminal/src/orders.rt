@@ -1,49 +1,16 @@
 // The order that the next opening or load is lent: shuffled by a seed, or begun with cards of one's choice.
-ghost use Rattle.std.specs.Prelude.{◌≤◌};
-
-use script::named::{cards_named, many_named};
+use script::named::order_named;
 use script::orders::{Order, begun_order, lent};
 
 // How orders are made: from cards that come first where they were given, else by the seed.
 #[derive(Clone, Copy)]
 pub(crate) struct Source {
-    pub given: bool,
-    pub first: [u8; 64],
-    pub many: usize,
-    pub seed: u64,
+    first: Option<Order>,
+    seed: u64,
 }
 
 pub(crate) fn by_seed(seed: u64) -> Source {
-    Source {
-        given: false,
-        first: [0u8; 64],
-        many: 0,
-        seed,
-    }
-}
-
-// The seed stays, for a later shuffle that goes on from it.
-pub(crate) fn by_cards(letters: &[u8], seed: u64) -> Source {
-    let first = cards_named(letters);
-    Source {
-        given: true,
-        first,
-        many: many_named(letters),
-        seed,
-    }
-}
-
-// The cards exchanged at two places.
-fn exchanged(o: Order, i: usize, j: usize) -> Order {
-    if 416 <= i || 416 <= j {
-        return o;
-    }
-    let a = o.cards[i];
-    let b = o.cards[j];
-    let mut next = o;
-    next.cards[i] = b;
-    next.cards[j] = a;
-    next
+    Source { first: None, seed }
 }
 
 // The next number that decides, 1 to 2147483646 (Lehmer's rule with 48271).
@@ -52,32 +19,36 @@ fn stirred(n: u64) -> u64 {
 }
 
 // Each card is exchanged with itself or one before it, so that every face stays as often as it was.
-fn shuffled(o: Order, seed: u64) -> Order {
-    let mut next = o;
+fn shuffled(order: Order, seed: u64) -> Order {
+    let mut next = order;
+    let cards = &mut next.cards[..lent(order.count)];
     let mut n = stirred(1 + seed % 2147483646);
-    for i in 1usize..lent(o.count) {
-        next = exchanged(next, i, (n % 1000003) as usize % (i + 1));
+    // Two places are exchanged, so both are numbers.
+    for last in 1..cards.len() {
+        cards.swap(last, (n % 1000003) as usize % (last + 1));
         n = stirred(n);
     }
     next
 }
 
-fn at_most_64(many: usize) -> usize
-    ensures { result ≤ 64 }
-{
-    if many < 64 { many } else { 64 }
-}
-
-// The order that begins with the first of these cards.
-fn given(first: [u8; 64], many: usize, decks: u8) -> Order {
-    begun_order(&first[..at_most_64(many)], decks)
-}
-
-// The order for so many decks.
-pub(crate) fn order_for(s: Source, decks: u8) -> Order {
-    let first = s.first;
-    if s.given {
-        return given(first, s.many, decks);
+impl Source {
+    // Cards that come first, an order of no deck. The seed stays, for a later shuffle that goes on from it.
+    pub(crate) fn by_cards(self, letters: &[u8]) -> Self {
+        Source {
+            first: Some(order_named(letters, 0)),
+            seed: self.seed,
+        }
     }
-    shuffled(begun_order(b"", decks), s.seed)
+
+    pub(crate) fn next_seed(self) -> u64 {
+        self.seed % 1_000_000_000_000_000 + 1
+    }
+
+    // The order for so many decks.
+    pub(crate) fn order_for(self, decks: u8) -> Order {
+        match self.first {
+            Some(first) => begun_order(first.as_slice(), decks),
+            None => shuffled(begun_order(b"", decks), self.seed),
+        }
+    }
 }

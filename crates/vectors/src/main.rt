@@ -3,23 +3,34 @@
 // from document 01.
 #![tactic(auto)]
 
-mod awaited;
-mod examples;
-mod lines;
-mod paid;
-mod permitted;
-mod table;
+mod answered;
+mod example;
+mod rule;
 
+use crate::example::Example;
+use crate::rule::answer;
 use std::io;
 use std::io::{BufWriter, Read, Write};
 
 // As many bytes as are read.
 const ROOM: u64 = 65536;
 
+// A line for each example: its words, then what the rule answers.
+fn each<W: Write>(out: &mut W, text: &[u8]) -> io::Result<()> {
+    let lines = text.split(|letter| *letter == b'\n');
+    for example in lines.filter_map(Example::read) {
+        if let Some(answered) = answer(example) {
+            out.write_all(example.words)?;
+            writeln!(out, ": {answered}")?;
+        }
+    }
+    Ok(())
+}
+
 fn main(rt: HostRuntime) -> io::Result<()> {
     let mut text = Vec::new(rt.alloc());
     rt.stdin().take(ROOM).read_to_end(&mut text)?;
     let mut out = BufWriter::new(rt.alloc(), io::writer(&rt))?;
-    table::each(&mut out, &text)?;
+    each(&mut out, &text)?;
     out.flush()
 }

@@ -3,7 +3,7 @@ ghost use Rattle.std.specs.Prelude.{◌≡◌, ◌≤◌, length};
 ghost use Rattle.books.specs.Laws.{Whole};
 ghost use Rattle.ways.specs.Ways.{ways_from};
 
-use crate::decide::{close_number, kind_at, tried};
+use crate::decide::{KINDS, close_number, tried};
 use call::At;
 use table::Table;
 
@@ -23,8 +23,8 @@ pub(crate) fn count_from(t: Table, at: At, left: usize) -> usize
         return 0;
     }
     let mut all: usize = 0;
-    for i in 0usize..6 {
-        let o = tried(t, at, kind_at(i));
+    for kind in KINDS {
+        let o = tried(t, at, kind);
         if o.number == 0 {
             all += count_from(o.table, at, left - 1);
         }

@@ -1,31 +1,20 @@
 // One decision tried on a table, and what close would give there: both by the engine's step. The tables are known not to be broken.
-ghost use Rattle.std.specs.Prelude.{◌≡◌, false, [], ◌<◌, get_or};
+ghost use Rattle.std.specs.Prelude.{◌≡◌, false, []};
 ghost use Rattle.call.specs.declared.Call.TheVariants.{Close};
 ghost use Rattle.table.specs.Broken.{broken};
 ghost use Rattle.engine.specs.Step.{number, next};
-ghost use Rattle.ways.specs.Decisions.{decision_kinds, decision as decision_of};
+ghost use Rattle.ways.specs.Decisions.{decision as decision_of};
 ghost use Rattle.ways.specs.Aids.Tried.{Tried};
 
 use answer::outcome::Outcome;
 use call::pay_line::LINES;
 use call::{At, Call};
-use engine::step_checked;
+use engine::step_whole;
 use table::Table;
+use table::whole::Whole;
 
-// The kinds in the request's order: stand, draw, double, split, even, five.
-pub(crate) fn kind_at(i: usize) -> u8
-    requires { i < 6 }
-    ensures { result ≡ get_or decision_kinds i 0 }
-{
-    match i {
-        0 => 8,
-        1 => 9,
-        2 => 10,
-        3 => 11,
-        4 => 13,
-        _ => 14,
-    }
-}
+// The kinds in the request's order: stand, draw, double, split, even, five. Bytes and no enum: a list of them crosses the C interface in a `Way`.
+pub(crate) const KINDS: [u8; 6] = [8, 9, 10, 11, 13, 14];
 
 fn decision(at: At, kind: u8) -> Call
     ensures { result ≡ decision_of at kind }
@@ -40,20 +29,26 @@ fn decision(at: At, kind: u8) -> Call
     }
 }
 
-// The number of a decision and the table after it.
+// The number of a call and the table after it.
+fn played(t: Table, c: Call) -> Outcome
+    requires { broken t ≡ false }
+    ensures { Tried t c result }
+{
+    let mut names = [0u32; LINES];
+    let mut nets = [0i64; LINES];
+    let r = step_whole(&Whole::new(t), c, b"", &mut names, &mut nets);
+    Outcome {
+        number: r.answer.number,
+        table: r.table,
+    }
+}
+
+// Of a decision.
 pub(crate) fn tried(t: Table, at: At, kind: u8) -> Outcome
     requires { broken t ≡ false }
     ensures { Tried t (decision_of at kind) result }
 {
-    let mut names = [0u32; LINES];
-    let mut nets = [0i64; LINES];
-    let r = step_checked(t, decision(at, kind), b"", &mut names, &mut nets);
-    let answer = r.answer;
-    let table = r.table;
-    Outcome {
-        number: answer.number,
-        table,
-    }
+    played(t, decision(at, kind))
 }
 
 // The same of close.
@@ -61,21 +56,12 @@ pub(crate) fn closed(t: Table) -> Outcome
     requires { broken t ≡ false }
     ensures { Tried t Close result }
 {
-    let mut names = [0u32; LINES];
-    let mut nets = [0i64; LINES];
-    let r = step_checked(t, Call::Close, b"", &mut names, &mut nets);
-    let answer = r.answer;
-    let table = r.table;
-    Outcome {
-        number: answer.number,
-        table,
-    }
+    played(t, Call::Close)
 }
 
 pub(crate) fn close_number(t: Table) -> u8
     requires { broken t ≡ false }
     ensures { result ≡ number t Close [] }
 {
-    let o = closed(t);
-    o.number
+    closed(t).number
 }

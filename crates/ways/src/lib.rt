@@ -9,16 +9,16 @@ mod pick;
 mod sum;
 
 ghost use Rattle.std.specs.Prelude.{◌≡◌};
-ghost use Rattle.ways.specs.Number.{count_of_ways, no_way, way_at, way_of};
+ghost use Rattle.ways.specs.Number.{ways_number, count_of_ways, no_way, way_at, way_of};
 
 use crate::count::count_from;
-use crate::numbers::{player, ways_number};
+use crate::numbers::{check_ways, player};
 use crate::pick::pick_list;
 use crate::sum::end_sum;
 use state::shape::table_shape;
 use table::Table;
 
-// The number, 0 where there is a count.
+// The number, 0 where there is a count. Two numbers and no Result: C reads them.
 #[repr(C)]
 #[derive(Clone, Copy)]
 pub struct WaysCount {
@@ -27,6 +27,7 @@ pub struct WaysCount {
 }
 
 // The first `length` of the decisions, each by the kind of its call: 8 stand, 9 draw, 10 double, 11 split, 13 even, 14 five; and what the guest gains or loses by them.
+// C reads it: so a number, a flag, and an array with its length.
 #[repr(C)]
 #[derive(Clone, Copy)]
 pub struct Way {
@@ -43,13 +44,19 @@ pub(crate) const MOST: usize = 8;
 pub fn ways_count(t: Table) -> WaysCount
     ensures { result ≡ count_of_ways t }
 {
-    let number = ways_number(t);
-    if number != 0 {
-        return WaysCount { number, count: 0 };
+    match check_ways(t) {
+        Err(why) => WaysCount {
+            number: why.number(),
+            count: 0,
+        },
+        Ok(()) => {
+            table_shape(t);
+            WaysCount {
+                number: 0,
+                count: count_from(t, player(t), MOST),
+            }
+        }
     }
-    table_shape(t);
-    let count = count_from(t, player(t), MOST);
-    WaysCount { number: 0, count }
 }
 
 fn no_way(number: u8) -> Way
@@ -64,13 +71,11 @@ fn no_way(number: u8) -> Way
     }
 }
 
-pub fn way_at(t: Table, place: usize) -> Way
+// Of a table that has a count.
+fn counted_way(t: Table, place: usize) -> Way
+    requires { ways_number t ≡ 0 }
     ensures { way_of result ≡ way_at t place }
 {
-    let number = ways_number(t);
-    if number != 0 {
-        return no_way(number);
-    }
     table_shape(t);
     let at = player(t);
     if count_from(t, at, MOST) <= place {
@@ -84,5 +89,14 @@ pub fn way_at(t: Table, place: usize) -> Way
         length: p.length,
         decisions,
         sum: end_sum(p.table),
+    }
+}
+
+pub fn way_at(t: Table, place: usize) -> Way
+    ensures { way_of result ≡ way_at t place }
+{
+    match check_ways(t) {
+        Err(why) => no_way(why.number()),
+        Ok(()) => counted_way(t, place),
     }
 }

@@ -1,13 +1,14 @@
 // When there is no count, and who plays.
 ghost use Rattle.std.specs.Prelude.{◌≡◌, cond, ◌≤◌, ltb};
 ghost use Rattle.lists.specs.Tests.{first_place};
+ghost use Rattle.call.specs.Refusal.{number_in};
 ghost use Rattle.table.specs.Seat.{is_staked};
 ghost use Rattle.ways.specs.Lawful.{player as player_of};
 ghost use Rattle.ways.specs.Number.{staked_of, staked_guests, ways_number};
 
 use broken::broken;
 use call::At;
-use call::refusal::asked;
+use call::refusal::{Refusal, first_refusal};
 use decisions::progress::any_decided;
 use state::round::is_dealt;
 use table::{Money, Seat, Table};
@@ -16,7 +17,7 @@ fn is_staked(m: Money) -> usize
     ensures same { result ≡ cond (ltb 0 m.stake) 1 0 }
     ensures small { result ≤ 1 }
 {
-    if 0 < m.stake { 1 } else { 0 }
+    usize::from(0 < m.stake)
 }
 
 // How many guests of a seat have a stake.
@@ -24,36 +25,20 @@ fn staked_of(s: Seat) -> usize
     ensures same { result ≡ staked_of s }
     ensures small { result ≤ 3 }
 {
-    let one = s.others[0];
-    let other = s.others[1];
-    is_staked(s.money) + is_staked(one) + is_staked(other)
+    is_staked(s.money) + is_staked(s.others[0]) + is_staked(s.others[1])
 }
 
 fn staked_guests(t: Table) -> usize
     ensures { result ≡ staked_guests t }
 {
-    let seats = t.seats;
-    let mut all: usize = 0;
-    for i in 0usize..9 {
-        let s = seats[i];
-        all += staked_of(s);
-    }
-    all
+    t.seats.iter().map(|s| staked_of(*s)).sum()
 }
 
-// The first staked seat, 9 where there is none.
+// The first staked seat, or 9 where there is none. No Option: the guest who plays is an `At`, in every table, and 9 is the seat that its definition names there.
 fn staked_seat(t: Table) -> u8
     ensures { result ≡ first_place is_staked t.seats }
 {
-    let seats = t.seats;
-    for i in 0usize..9 {
-        let s = seats[i];
-        let money = s.money;
-        if 0 < money.stake {
-            return i as u8;
-        }
-    }
-    9
+    t.seats.iter().position(|s| 0 < s.money.stake).unwrap_or(9) as u8
 }
 
 // Its seated guest.
@@ -66,16 +51,14 @@ pub(crate) fn player(t: Table) -> At
     }
 }
 
-pub(crate) fn ways_number(t: Table) -> u8
-    ensures { result ≡ ways_number t }
+// Why there is no count.
+pub(crate) fn check_ways(t: Table) -> Result<(), Refusal>
+    ensures { number_in result ≡ ways_number t }
 {
-    asked(
-        1,
-        broken(t),
-        asked(
-            5,
-            !is_dealt(t),
-            asked(13, 1 < staked_guests(t), asked(13, any_decided(t), 0)),
-        ),
-    )
+    first_refusal(&[
+        (Refusal::Broken, broken(t)),
+        (Refusal::NoRound, !is_dealt(t)),
+        (Refusal::Barred, 1 < staked_guests(t)),
+        (Refusal::Barred, any_decided(&t)),
+    ])
 }

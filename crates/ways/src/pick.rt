@@ -7,7 +7,7 @@ ghost use Rattle.ways.specs.Ways.{ways_from};
 ghost use Rattle.ways.specs.Aids.Picked.{GoesOn, Ends};
 
 use crate::count::count_from;
-use crate::decide::{close_number, kind_at, tried};
+use crate::decide::{KINDS, close_number, tried};
 use call::At;
 use table::Table;
 
@@ -20,6 +20,7 @@ pub(crate) struct Onward {
 }
 
 // The list, and the table where it ends.
+// An array with its length: C reads both in a `Way`.
 #[derive(Clone, Copy)]
 pub(crate) struct Picked {
     pub table: Table,
@@ -36,16 +37,14 @@ fn first_decision(t: Table, at: At, left: usize, place: usize) -> Onward
     ensures { GoesOn t at left place result }
 {
     let mut rest = place;
-    for i in 0usize..6 {
-        let kind = kind_at(i);
+    for kind in KINDS {
         let o = tried(t, at, kind);
         if o.number == 0 {
-            let table = o.table;
-            let many = count_from(table, at, left);
+            let many = count_from(o.table, at, left);
             if rest < many {
                 return Onward {
                     kind,
-                    table,
+                    table: o.table,
                     place: rest,
                 };
             }
@@ -59,6 +58,7 @@ fn first_decision(t: Table, at: At, left: usize, place: usize) -> Onward
     }
 }
 
+// Decision by decision up to the list's end. A `while`: the number of decisions that it counts is handed out with them.
 pub(crate) fn pick_list(t: Table, at: At, place: usize) -> Picked
     requires whole { Whole t }
     requires inside { place < length (ways_from 8 at t) }

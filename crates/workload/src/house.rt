@@ -2,8 +2,10 @@
 ghost use Rattle.std.specs.Prelude.{◌≤◌};
 
 use options::Options;
+use std::array;
 
-// Seven seats, and every option that adds work: two burns, four hands, aces again, insurance up to the stake, five and prize.
+// Seven seats, and every option that adds work: two burns, four hands, aces again, insurance up to the stake, five and prize. Little of it is the marked house's, so all
+// are written out.
 pub fn options_of(decks: u8) -> Options {
     let cut: u16 = if decks == 1 { 0 } else { 30 };
     Options {
@@ -59,11 +61,6 @@ fn stride(seed: u32) -> usize
 pub fn order_of(decks: u8, seed: u32) -> [u8; 416] {
     let n = cards_of(decks);
     let far = stride(seed);
-    let mut at = (seed / 8) as usize;
-    let mut cards = [0u8; 416];
-    for i in 0usize..416 {
-        cards[i] = (at % n % 52) as u8;
-        at += far;
-    }
-    cards
+    let first = (seed / 8) as usize;
+    array::from_fn(|place| ((first + far * place) % n % 52) as u8)
 }

@@ -1,56 +1,70 @@
 // The plan of the workload: which call comes next. A session fills the tray and the purses, then plays rounds with seven stakes; a shoe that is
 // too short is loaded anew, and a round that cannot be closed is void, as is every tenth.
+use call::refusal::Refusal;
 use call::{At, Call};
 use state::turn::seat_in_turn;
 use table::Table;
 
-pub const FILL: u8 = 0;
+// What the plan has come to, in the order of a session.
+#[derive(Clone, Copy, Debug, PartialEq, Eq)]
+pub enum Stage {
+    Fill,
+    Credit,
+    Buy,
+    Cash,
+    Stake,
+    Deal,
+    Insure,
+    Decide,
+    Close,
+    Void,
+    Load,
+    Open,
+}
 
-pub const CREDIT: u8 = 1;
-
-pub const BUY: u8 = 2;
-
-pub const CASH: u8 = 3;
-
-pub const STAKE: u8 = 4;
-
-pub const DEAL: u8 = 5;
-
-pub const INSURE: u8 = 6;
-
-pub const DECIDE: u8 = 7;
-
-pub const CLOSE: u8 = 8;
-
-pub const VOID: u8 = 9;
-
-pub const LOAD: u8 = 10;
-
-pub const OPEN: u8 = 11;
+impl Stage {
+    fn next(self) -> Self {
+        match self {
+            Stage::Fill => Stage::Credit,
+            Stage::Credit => Stage::Buy,
+            Stage::Buy => Stage::Cash,
+            Stage::Cash => Stage::Stake,
+            Stage::Stake => Stage::Deal,
+            Stage::Deal => Stage::Insure,
+            Stage::Insure => Stage::Decide,
+            Stage::Decide => Stage::Close,
+            Stage::Close => Stage::Void,
+            Stage::Void => Stage::Load,
+            Stage::Load => Stage::Open,
+            Stage::Open => Stage::Fill,
+        }
+    }
+}
 
 // Rounds of one session.
 const ROUNDS: u8 = 40;
 
-// The stage and the seat it has come to; decks and round of the session; whose turn it is, 9 where it is nobody's; whether the last decision was
-// refused; a number that decides.
+// The stage and the seat it has come to; decks and round of the session; the seat whose turn it is; whether the last decision was refused; a number that
+// decides.
 #[derive(Clone, Copy)]
 pub struct Plan {
-    pub stage: u8,
+    pub stage: Stage,
     pub seat: u8,
     pub decks: u8,
     pub round: u8,
-    pub turn: u8,
+    pub turn: Option<u8>,
+    // A fact of the last call: the plan asks for it and not for the number.
     pub refused: bool,
     pub seed: u32,
 }
 
 pub fn start() -> Plan {
     Plan {
-        stage: FILL,
+        stage: Stage::Fill,
         seat: 0,
         decks: 1,
         round: 0,
-        turn: 9,
+        turn: None,
         refused: false,
         seed: 1,
     }
@@ -73,30 +87,27 @@ fn decision(p: Plan, at: At) -> Call {
     }
 }
 
+// Where it is nobody's turn the decision names a seat that there is not.
 pub fn chosen(p: Plan) -> Call {
     let at = At {
         seat: p.seat,
         position: 0,
     };
-    let stage = p.stage;
-    match stage {
-        FILL => Call::Fill(100000),
-        CREDIT => Call::Credit(10),
-        BUY => Call::Buy(at, 10000),
-        CASH => Call::Cash(at, 1),
-        STAKE => Call::Stake(at, 20),
-        DEAL => Call::Deal,
-        INSURE => Call::Insure(at, 10),
-        CLOSE => Call::Close,
-        VOID => Call::Void,
-        LOAD => Call::Load,
-        _ => decision(
-            p,
-            At {
-                seat: p.turn,
-                position: 0,
-            },
-        ),
+    match p.stage {
+        Stage::Fill => Call::Fill(100_000),
+        Stage::Credit => Call::Credit(10),
+        Stage::Buy => Call::Buy(at, 10_000),
+        Stage::Cash => Call::Cash(at, 1),
+        Stage::Stake => Call::Stake(at, 20),
+        Stage::Deal => Call::Deal,
+        Stage::Insure => Call::Insure(at, 10),
+        Stage::Close => Call::Close,
+        Stage::Void => Call::Void,
+        Stage::Load => Call::Load,
+        Stage::Decide | Stage::Open => {
+            let seat = p.turn.unwrap_or(9);
+            decision(p, At { seat, position: 0 })
+        }
     }
 }
 
@@ -105,20 +116,20 @@ fn stirred(seed: u32) -> u32 {
     ((seed as u64 * 1103515245 + 12345) % 2147483648) as u32
 }
 
-fn stage_after(stage: u8) -> u8 {
-    if stage < OPEN { stage + 1 } else { FILL }
-}
-
 // The same stage for the next seat up to the last, then the next stage from seat 0.
 fn each_seat(p: Plan, last: u8) -> Plan {
-    let mut next = p;
     if p.seat < last {
-        next.seat = p.seat + 1;
+        Plan {
+            seat: p.seat + 1,
+            ..p
+        }
     } else {
-        next.seat = 0;
-        next.stage = stage_after(p.stage);
+        Plan {
+            seat: 0,
+            stage: p.stage.next(),
+            ..p
+        }
     }
-    next
 }
 
 // 1, 2, 6, 8 decks in turn.
@@ -133,58 +144,79 @@ fn next_decks(decks: u8) -> u8 {
 
 // The next round, or after the last one the next session.
 fn round_ended(p: Plan) -> Plan {
-    let mut next = p;
-    next.seat = 0;
     if p.round < ROUNDS {
-        next.round = p.round + 1;
-        next.stage = CASH;
+        Plan {
+            seat: 0,
+            round: p.round + 1,
+            stage: Stage::Cash,
+            ..p
+        }
     } else {
-        next.round = 0;
-        next.stage = OPEN;
-        next.decks = next_decks(p.decks);
+        Plan {
+            seat: 0,
+            round: 0,
+            stage: Stage::Open,
+            decks: next_decks(p.decks),
+            ..p
+        }
     }
-    next
+}
+
+// The seat whose turn it is.
+fn turn_of(t: &Table) -> Option<u8> {
+    match seat_in_turn(*t) {
+        seat @ 0..9 => Some(seat as u8),
+        _ => None,
+    }
 }
 
 // Once no hand waits the round ends.
-fn decided(p: Plan, number: u8, t: Table) -> Plan {
-    let mut next = p;
-    next.refused = number != 0;
-    next.turn = (seat_in_turn(t) % 10) as u8;
-    if next.turn < 9 {
-        return next;
+fn decided(p: Plan, refused: bool, t: &Table) -> Plan {
+    let turn = turn_of(t);
+    if turn.is_some() {
+        return Plan { turn, refused, ..p };
     }
-    next.refused = false;
-    next.stage = if p.round % 10 == 9 { VOID } else { CLOSE };
-    next
+    let stage = if p.round % 10 == 9 {
+        Stage::Void
+    } else {
+        Stage::Close
+    };
+    Plan {
+        turn,
+        refused: false,
+        stage,
+        ..p
+    }
 }
 
 // The plan after a call that gave this number.
+// The number of an answer, as C reads it.
 pub fn after(p: Plan, number: u8, t: Table) -> Plan {
-    let mut q = p;
-    q.seed = stirred(p.seed);
-    let stage = p.stage;
-    match stage {
-        BUY => each_seat(q, 6),
-        STAKE => each_seat(q, 6),
-        INSURE => decided(each_seat(q, 1), 0, t),
-        DEAL => {
-            q.stage = if number == 17 { LOAD } else { INSURE };
-            q
-        }
-        LOAD => {
-            q.stage = DEAL;
-            q
-        }
-        DECIDE => decided(q, number, t),
-        CLOSE => {
-            if number == 18 {
-                q.stage = VOID;
-                return q;
-            }
-            round_ended(q)
-        }
-        VOID => round_ended(q),
-        _ => each_seat(q, 0),
+    let q = Plan {
+        seed: stirred(p.seed),
+        ..p
+    };
+    match p.stage {
+        Stage::Buy | Stage::Stake => each_seat(q, 6),
+        Stage::Insure => decided(each_seat(q, 1), false, &t),
+        Stage::Deal if number == Refusal::ShortShoe.number() => Plan {
+            stage: Stage::Load,
+            ..q
+        },
+        Stage::Deal => Plan {
+            stage: Stage::Insure,
+            ..q
+        },
+        Stage::Load => Plan {
+            stage: Stage::Deal,
+            ..q
+        },
+        Stage::Decide => decided(q, number != 0, &t),
+        Stage::Close if number == Refusal::NoCards.number() => Plan {
+            stage: Stage::Void,
+            ..q
+        },
+        Stage::Close | Stage::Void => round_ended(q),
+        Stage::Fill | Stage::Credit | Stage::Cash | Stage::Open => each_seat(q, 0),
     }
 }

@@ -1,6 +1,6 @@
--- Each turn goes on to a later file.
-use Rattle.std.proofs.Common.{length, ◌-◌}
+-- Each turn leaves fewer bytes.
+use Rattle.std.proofs.Common.{length}
 use Rattle.bad_files.proofs.each.Given as goal
 
-abbrev pub decreases-loop-at : goal.decreases-loop-at
-decreases-loop-at g l = length l.files - l.at
+abbrev pub decreases-loop-left : goal.decreases-loop-left
+decreases-loop-left g l = length l.left

@@ -1,66 +1,20 @@
--- `chances` asks the conditions, and then the recursion counts the cards that are left, by their points.
-use mathlib.Core.Path.{◌≡◌, sym, ◌∙◌, ap}
-use mathlib.Core.Bool.{true}
+-- A refused question gives its number and zeros.
+use mathlib.Core.Path.{sym, ◌∙◌, ap}
 use Prim.Native.Nat.{ℕ}
-use native.Mathlib.Omega.{arith}
-use borrow.Author.Tests.{eq-eqb, ne_eqb}
-use lib.Dec.{eqb}
-use lib.ListN.{length, replicate}
-use Rattle.cards.specs.Hand.{with_card}
-use Rattle.cards.specs.declared.hand.Hand.{Hand}
-use Rattle.bank_chances.specs.CardsLeft.{cards_left}
+use borrow.Author.Tests.{ne_eqb}
+use lib.ListN.{replicate}
+use Rattle.call.proofs.Refusals.{refusal_some}
 use Rattle.bank_chances.specs.Chances.{chances_number, make_chances, chances_of}
-use Rattle.bank_chances.specs.Draws.{falling}
-use Rattle.bank_chances.proofs.Accepted.{accepted, accepted-within, counted}
-use borrow.Author.Rules.{rules}
 use Rattle.bank_chances.proofs.chances.Goals as goal
 
-pub returns-then-number-ne0 : goal.returns-then-number-ne0
+pub counted-requires : goal.counted-requires
+counted-requires c = sym c.in-Ok.ensures
+
+pub returns-in-Ok : goal.returns-in-Ok
+returns-in-Ok c = c.counted.ensures
+
+pub returns-in-Err : goal.returns-in-Err
 unfolding chances_of
-returns-then-number-ne0 c =
-    let start = c in
-    simp (ne_eqb (chances_number start.args.up start.args.left start.args.depth) 0 (λ none. c.if-number-ne0.true (c.chances_number-number.ensures ∙ none)))
-    (c.refused.ensures ∙ ap (λ (number : ℕ). make_chances number 0 (replicate 8 0)) c.chances_number-number.ensures)
-
-pub ways-found-requires : goal.ways-found-requires
-ways-found-requires c =
-    let start = c in
-    let up = start.args.up in
-    let left = start.args.left in
-    let depth = start.args.depth in
-    let full : length left ≡ 52 = search rules in
-    let none : chances_number up left depth ≡ 0 = sym c.chances_number-number.ensures ∙ c.if-number-ne0.false in
-    let counts = c.by_points.result in
-    let ten : length counts ≡ 10 = search rules in
-    accepted-within left counts c.many_left-n.result depth (accepted up left depth full none) c.many_left-n.ensures ten c.by_points.ensures
-
-pub falling-requires : goal.falling-requires
-falling-requires c =
-    let start = c in
-    let up = start.args.up in
-    let left = start.args.left in
-    let depth = start.args.depth in
-    let full : length left ≡ 52 = search rules in
-    let none : chances_number up left depth ≡ 0 = sym c.chances_number-number.ensures ∙ c.if-number-ne0.false in
-    let ok = accepted up left depth full none in
-    (omega (arith, c.many_left-n.ensures, ok.few), ok.deep)
-
-pub returns : goal.returns
-unfolding chances_of
-returns c =
-    let start = c in
-    let up = start.args.up in
-    let left = start.args.left in
-    let depth = start.args.depth in
-    let full : length left ≡ 52 = search rules in
-    let none : chances_number up left depth ≡ 0 = sym c.chances_number-number.ensures ∙ c.if-number-ne0.false in
-    let n = c.many_left-n.result in
-    let many = c.many_left-n.ensures in
-    let counts = c.by_points.result in
-    let ten : length counts ≡ 10 = search rules in
-    let hand = c.with_card-bank.result in
-    let dealt = c.with_card-bank.ensures ∙ ap (λ (h : Hand). with_card h up) c.empty_hand.ensures in
-    let same : eqb (chances_number up left depth) 0 ≡ true = eq-eqb (chances_number up left depth) 0 none in
-    simp same
-    (ap (λ (all : ℕ). make_chances 0 all c.ways-found.result.each) (c.falling.ensures ∙ ap (λ (m : ℕ). falling m depth) many)
-    ∙ ap (make_chances 0 (falling (length (cards_left left)) depth)) (c.ways-found.ensures ∙ counted up hand (cards_left left) counts n depth dealt many ten c.by_points.ensures))
+returns-in-Err c =
+    simp (ne_eqb (chances_number c.args.up c.args.left c.args.depth) 0 (λ none. refusal_some c.in-Err.why (c.in-Err.ensures ∙ none)))
+    (c.refused.ensures ∙ ap (λ (number : ℕ). make_chances number 0 (replicate 8 0)) c.in-Err.ensures)

@@ -28,35 +28,32 @@ module _ (t : Table) (m : Sums) (same : m ≡ table_sums t) where
   unfolding sound_money
   covers fits dealt = ap (λ (m : Sums). leb m.cover (t.tray + m.prizes)) same ∙ sym (simp (fits, dealt))
 
-pub returns-then-past_most_money : goal.returns-then-past_most_money
+pub returns-else-not-past_most_money : goal.returns-else-not-past_most_money
 unfolding sound_money
-returns-then-past_most_money c =
-    let start = c in
-    simp (within start.args.t start.args.m start.requires _ c.past_most_money.ensures ∙ ap not c.if-past_most_money.true)
+returns-else-not-past_most_money c =
+    simp (within c.args.t c.args.m c.requires _ c.past_most_money.ensures ∙ ap not c.if-not-past_most_money.false, c.if-not-past_most_money.false)
 
 pub returns-then-not-is_dealt : goal.returns-then-not-is_dealt
 unfolding sound_money
 returns-then-not-is_dealt c =
-    let start = c in
     simp (
-      within start.args.t start.args.m start.requires _ c.past_most_money.ensures ∙ ap not c.if-past_most_money.false,
+      within c.args.t c.args.m c.requires _ c.past_most_money.ensures ∙ ap not c.if-not-past_most_money.true,
       sym c.is_dealt.ensures ∙ c.if-not-is_dealt.true,
+      c.if-not-is_dealt.true,
     )
 
 pub returns-then-m-t : goal.returns-then-m-t
 returns-then-m-t c =
-    let start = c in
-    let t = start.args.t in
-    let m = start.args.m in
-    let fits = within t m start.requires _ c.past_most_money.ensures ∙ ap not c.if-past_most_money.false in
+    let t = c.args.t in
+    let m = c.args.m in
+    let fits = within t m c.requires _ c.past_most_money.ensures ∙ ap not c.if-not-past_most_money.true in
     let enough : m.cover ≤ t.tray + m.prizes = omega (arith, c.if-m-t.true) in
-    le-leb _ _ c.if-m-t.true ∙ sym (le-leb _ _ enough) ∙ covers t m start.requires fits (sym c.is_dealt.ensures ∙ c.if-not-is_dealt.false)
+    le-leb _ _ c.if-m-t.true ∙ sym (le-leb _ _ enough) ∙ covers t m c.requires fits (sym c.is_dealt.ensures ∙ c.if-not-is_dealt.false)
 
 pub returns-else-m-t : goal.returns-else-m-t
 returns-else-m-t c =
-    let start = c in
-    let t = start.args.t in
-    let m = start.args.m in
-    let fits = within t m start.requires _ c.past_most_money.ensures ∙ ap not c.if-past_most_money.false in
+    let t = c.args.t in
+    let m = c.args.m in
+    let fits = within t m c.requires _ c.past_most_money.ensures ∙ ap not c.if-not-past_most_money.true in
     leb_past m.cover t.tray m.prizes c.if-m-t.false
-    ∙ covers t m start.requires fits (sym c.is_dealt.ensures ∙ c.if-not-is_dealt.false)
+    ∙ covers t m c.requires fits (sym c.is_dealt.ensures ∙ c.if-not-is_dealt.false)

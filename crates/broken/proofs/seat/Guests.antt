@@ -23,15 +23,43 @@ use Rattle.money.specs.Sums.{make_sums, no_sums, capped, guest_sums, seat_sums, 
 use Rattle.money.specs.SumsFit.{SumsFit}
 use Rattle.money.proofs.sums.Pass.{fits_in_lem, no_guests_fit, seat_fits, nothing_summed, none_more}
 use Rattle.broken.specs.declared.hand.Looked.{Looked}
-use Rattle.broken.specs.declared.seat.Survey.{Survey}
 use Rattle.broken.specs.Aids.LookedAt.{LookedAt}
 use Rattle.broken.specs.Aids.AtRest.{AtRest}
+use Rattle.std.proofs.Common.{Option, Some, None, IfSome, rules}
+use Rattle.std.proofs.lemmas.Option.{none-some}
+use Rattle.std.specs.Bool.{then_some}
 use Rattle.broken.specs.Aids.Surveyed.{Surveyed}
 use Rattle.broken.proofs.seat.Laws.{sides-none, unseated}
 
--- the sums of a survey are within the bound of more guests
-pub survey_fits : (test : Bool) (m : Sums) (k n : ℕ) (v : Survey) → k ≤ n → Surveyed test m k v → SumsFit n v.sums
-survey_fits test m k n v h f = rw f.sums (fits_in_lem k n m h f.fits)
+-- a test of guests beside their sums, apart from what the code gives of both
+pub record Survey : Type 0 where
+  pub sound : Bool
+  pub sums : Sums
+
+pub record Tested (test : Bool) (m : Sums) (k : ℕ) (v : Survey) : Type 0 where
+  pub sound : v.sound ≡ test
+  pub sums : v.sums ≡ m
+  pub fits : SumsFit k m
+
+-- what the code gives where the two are those of the definitions
+pub of_tested : (test : Bool) (m : Sums) (k : ℕ) (v : Survey) → Tested test m k v → Surveyed test m k (then_some v.sound v.sums)
+of_tested test m k v f = record { value = ap₂ then_some f.sound f.sums; fits = go v.sound }
+  where
+    go : (b : Bool) → IfSome (then_some b v.sums) (λ sums. SumsFit k sums)
+    go true = rw f.sums f.fits
+    go false = tt
+
+-- and back: with sums the guests are sound, without they are not
+pub passed : (test : Bool) (m : Sums) (k : ℕ) (v : Option Sums) (sums : Sums) → Surveyed test m k v → v ≡ Some sums → Tested test m k (record { sound = true; sums = sums })
+passed true m k v sums f some = let same : sums ≡ m = search (rules, sym some ∙ f.value) in record { sound = refl; sums = same; fits = rw (← same) (rw some at f.fits) }
+passed false m k v sums f some = absurd (none-some sums (sym f.value ∙ some))
+
+pub failed : (test : Bool) (m : Sums) (k : ℕ) (v : Option Sums) → Surveyed test m k v → v ≡ None → test ≡ false
+failed false m k v f none = refl
+failed true m k v f none = absurd (none-some m (sym none ∙ f.value))
+
+pub nothing : (test : Bool) (m : Sums) (k : ℕ) → test ≡ false → Surveyed test m k None
+nothing test m k e = record { value = rw e; fits = tt }
 
 module _ (o : Options) (in_round : Bool) (up i : ℕ) where
   abbrev pub passes : Seat → Bool
@@ -45,7 +73,7 @@ module _ (o : Options) (in_round : Bool) (up i : ℕ) where
       simp (bets.no_stake_lem, bets.no_insurance, sided, unstaked_prizes o g bets.no_stake_lem, le-leb 0 (purse g + laid g) (omega arith), and-true)
 
   pub empty-surveyed : (r g : Seat) (sound : Bool) (sums : Sums) → r ≡ g → purse r ≡ 0 → NoBets r → sound ≡ sound_number o i r → sums ≡ no_sums
-      → Surveyed (passes g) (guest_sums o g) 1 (record { sound = sound; sums = sums })
+      → Tested (passes g) (guest_sums o g) 1 (record { sound = sound; sums = sums })
   empty-surveyed r g sound sums same none bets number zero =
       let nothing : guest_sums o g ≡ no_sums = ap (guest_sums o) (sym same) ∙ nothing_summed o r none bets in
       record { sound = number ∙ sym (empty-sound r bets) ∙ ap passes same; sums = zero ∙ sym nothing; fits = rw nothing (fits_in_lem 0 1 no_sums (omega arith) no_guests_fit) }
@@ -53,10 +81,10 @@ module _ (o : Options) (in_round : Bool) (up i : ℕ) where
   module _ (s : Seat) where
     -- the seated guest and the two others
     pub three : (a b c d e : Survey)
-        → Surveyed (passes s) (guest_sums o s) 1 a → Surveyed (passes (guest_at s 1)) (guest_sums o (guest_at s 1)) 1 b → Surveyed (passes (guest_at s 2)) (guest_sums o (guest_at s 2)) 1 c
+        → Tested (passes s) (guest_sums o s) 1 a → Tested (passes (guest_at s 1)) (guest_sums o (guest_at s 1)) 1 b → Tested (passes (guest_at s 2)) (guest_sums o (guest_at s 2)) 1 c
         → (d.sound ≡ a.sound && b.sound) × (d.sums ≡ plus_sums a.sums b.sums)
         → (e.sound ≡ d.sound && c.sound) × (e.sums ≡ plus_sums d.sums c.sums)
-        → Surveyed (each_guest passes s) (seat_sums o s) 3 e
+        → Tested (each_guest passes s) (seat_sums o s) 3 e
     three a b c d e seated one two both all =
         let same = sym (guest-seated s) in
         record {
@@ -74,7 +102,7 @@ module _ (o : Options) (in_round : Bool) (up i : ℕ) where
 
     -- so where nobody bets beside, the seated guest's test and sums are the seat's
     pub alone : (a : Survey) → nobody_in s.others ≡ true
-        → Surveyed (passes s) (guest_sums o s) 1 a → Surveyed (each_guest passes s) (seat_sums o s) 3 a
+        → Tested (passes s) (guest_sums o s) 1 a → Tested (each_guest passes s) (seat_sums o s) 3 a
     alone a nobody seated =
         let (first, second) = nobody_beside s nobody in
         three a (beside 1) (beside 2) a a seated (surveyed 1 first) (surveyed 2 second) (added 1 first) (added 2 second)
@@ -82,7 +110,7 @@ module _ (o : Options) (in_round : Bool) (up i : ℕ) where
         beside : ℕ → Survey
         beside p = record { sound = sound_number o i (guest_at s p); sums = no_sums }
 
-        surveyed : (p : ℕ) → is_nobody (guest_at s p).money ≡ true → Surveyed (passes (guest_at s p)) (guest_sums o (guest_at s p)) 1 (beside p)
+        surveyed : (p : ℕ) → is_nobody (guest_at s p).money ≡ true → Tested (passes (guest_at s p)) (guest_sums o (guest_at s p)) 1 (beside p)
         surveyed p none = let (purse, bets) = nothing_facts (guest_at s p) none in empty-surveyed (guest_at s p) (guest_at s p) (sound_number o i (guest_at s p)) no_sums refl purse bets refl refl
 
         added : (p : ℕ) → is_nobody (guest_at s p).money ≡ true → (a.sound ≡ a.sound && (beside p).sound) × (a.sums ≡ plus_sums a.sums (beside p).sums)
@@ -106,7 +134,7 @@ module _ (o : Options) (in_round : Bool) (up i : ℕ) where
 
     -- and the seat is the seated guest and the hands
     pub lone-seat : (a : Survey) → nobody_in s.others ≡ true → a.sound ≡ passes s && sound_hands o in_round up s → a.sums ≡ guest_sums o s → SumsFit 1 (guest_sums o s)
-        → Surveyed (sound_seat o in_round up i s) (seat_sums o s) 3 a
+        → Tested (sound_seat o in_round up i s) (seat_sums o s) 3 a
     unfolding sound_seat
     lone-seat a nobody sound sums fits =
         let each = alone (record { sound = passes s; sums = a.sums }) nobody (record { sound = refl; sums = sums; fits = fits }) in
@@ -147,16 +175,19 @@ module _ (o : Options) (in_round : Bool) (up i : ℕ) where
           simp (rest.no_hand, eq-eqb _ _ rest.bets.no_stake_lem, eq-eqb _ _ rest.bets.no_insurance, below_all (λ k. eqb (get_or (sides s) k 0) 0) 4 (λ k h. eq-eqb _ _ (rest.bets.no_sides k h)), and-true)
 
       pub resting : (a : Survey) → nobody_in s.others ≡ true → a.sound ≡ (ltb i o.seats || eqb (purse s) 0) → a.sums ≡ make_sums 0 0 0 0 (capped (purse s))
-          → Surveyed (sound_seat o in_round up i s) (seat_sums o s) 3 a
+          → Tested (sound_seat o in_round up i s) (seat_sums o s) 3 a
       resting a nobody number sums =
           lone-seat a nobody (number ∙ sym number-alone ∙ sym (empty-sound s rest.bets) ∙ sym (ap (λ (b : Bool). passes s && b) none-due ∙ and-true (passes s))) (sums ∙ sym purse_alone) purse_fits
 
     -- a guest who is not sound decides; where each is, what they share does
-    pub guest_fails : (m : Sums) (v : Survey) → Surveyed (each_guest passes s) m 3 v → v.sound ≡ false → Surveyed (sound_seat o in_round up i s) m 3 v
-    unfolding sound_seat
-    guest_fails m v f failed = record { sound = failed ∙ sym (simp (sym f.sound ∙ failed)); sums = f.sums; fits = f.fits }
+    pub one_fails : passes s ≡ false → each_guest passes s ≡ false
+    one_fails e = simp (guest-seated s, e)
 
-    pub guests_pass : (m : Sums) (v : Survey) (shared : Bool) → Surveyed (each_guest passes s) m 3 v → v.sound ≡ true → shared ≡ seated_first s && sound_hands o in_round up s
-        → Surveyed (sound_seat o in_round up i s) m 3 (record { sound = shared; sums = v.sums })
+    pub guest_fails : each_guest passes s ≡ false → sound_seat o in_round up i s ≡ false
+    unfolding sound_seat
+    guest_fails e = simp e
+
+    pub guests_pass : (m : Sums) (v : Survey) (shared : Bool) → Tested (each_guest passes s) m 3 v → v.sound ≡ true → shared ≡ seated_first s && sound_hands o in_round up s
+        → Tested (sound_seat o in_round up i s) m 3 (record { sound = shared; sums = v.sums })
     unfolding sound_seat
     guests_pass m v shared f passed same = record { sound = same ∙ sym (simp (sym f.sound ∙ passed)); sums = f.sums; fits = f.fits }

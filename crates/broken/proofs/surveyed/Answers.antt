@@ -1,5 +1,4 @@
 -- `surveyed` looks seat by seat: before each turn the first i are sound, their sums added up and their cards counted, and the first that is not sound decides.
-use borrow.Author.Tests.{not-true, not-false}
 use mathlib.Core.Path.{◌≡◌, refl, sym, ap, ◌∙◌, subst}
 use mathlib.Core.Bool.{Bool, true, false, true≢false}
 use mathlib.Core.List.{List, map}
@@ -26,9 +25,9 @@ use Rattle.card_count.specs.Aids.Counters.{counted_all}
 use Rattle.card_count.specs.Aids.Counted.{Counted}
 use Rattle.card_count.proofs.out_cards.Counting.{counted_none, counted_next, counted-room, counted_is, counted-at}
 use Rattle.broken.specs.Aids.Surveyed.{Surveyed}
-use Rattle.broken.proofs.seat.Guests.{survey_fits}
+use Rattle.broken.proofs.seat.Guests.{passed, failed}
 use borrow.Author.Rules.{rules}
-use Rattle.broken.proofs.surveyed.Goals.{Joined-hands-ne0, Joined-lone, then-hands-ne0, else-hands-ne0, then-lone, else-lone}
+use Rattle.broken.proofs.surveyed.Goals.{Joined-s-ne0, Joined-nobody_beside, then-s-ne0, else-s-ne0, then-nobody_beside, else-nobody_beside}
 use Rattle.broken.proofs.surveyed.Goals as goal
 
 -- the test of a seat, with what is worked out before the loop
@@ -53,29 +52,29 @@ unfolding counted_all flat
 no_hand of n places none = rw none (record { counters = refl; number = refl; few = omega arith })
 
 -- by either way the seat's cards are counted
-counted : (c : Joined-hands-ne0)
-    → Counted c.args.of.now c.if-hands-ne0.of (flat seat_cards (take (c.loop-i.i + 1) c.args.t.seats)) c.if-hands-ne0.cards (80 * (c.loop-i.i + 1))
+counted : (c : Joined-s-ne0)
+    → Counted c.args.of.now c.if-s-ne0.of (flat seat_cards (take (c.loop-i.i + 1) c.args.t.seats)) c.if-s-ne0.cards (80 * (c.loop-i.i + 1))
 counted c =
     let t = c.args.t in
     let at = c.loop-i in
     let full : length t.seats ≡ 9 = search rules in
     let below : at.i < length t.seats = omega arith in
     let s = get_or t.seats at.i missing_seat in
-    elim c.if-hands-ne0.branch [
-      | then-hands-ne0 w ↦ counted-at w.of-is w.cards-is (counted_next seat_cards t.seats 80 at.i missing_seat below at.invariant.4 w.count_seat-cards.ensures)
-      | else-hands-ne0 w ↦
+    elim c.if-s-ne0.branch [
+      | then-s-ne0 w ↦ counted-at w.of-is w.cards-is (counted_next seat_cards t.seats 80 at.i missing_seat below at.invariant.4 w.count_seat.ensures)
+      | else-s-ne0 w ↦
           counted-at w.of-is (w.cards-is ∙ sym (add-zero at.cards))
-          (counted_next seat_cards t.seats 80 at.i missing_seat below at.invariant.4 (no_hand at.of s.hands.many s.hands.places (omega (arith, w.if-hands-ne0.false))))
+          (counted_next seat_cards t.seats 80 at.i missing_seat below at.invariant.4 (no_hand at.of s.hands.many s.hands.places (omega (arith, w.if-s-ne0.false))))
     ]
 
 -- by either way the seat is surveyed
-joined : (c : Joined-lone)
+joined : (c : Joined-nobody_beside)
     → let t = c.args.t in
-    Surveyed (passes t.options c.is_dealt-dealt.result c.up-card.result t.seats c.loop-i.i) (seat_sums t.options (get_or t.seats c.loop-i.i missing_seat)) 3 c.if-lone.one
+    Surveyed (passes t.options c.is_dealt.result c.up.result t.seats c.loop-i.i) (seat_sums t.options (get_or t.seats c.loop-i.i missing_seat)) 3 c.if-nobody_beside.one
 joined c =
-    elim c.if-lone.branch [
-      | then-lone w ↦ subst (Surveyed _ _ 3) (sym w.one-is) w.surveyed_lone-one.ensures
-      | else-lone w ↦ subst (Surveyed _ _ 3) (sym w.one-is) w.surveyed_crowd-one.ensures
+    elim c.if-nobody_beside.branch [
+      | then-nobody_beside w ↦ subst (Surveyed _ _ 3) (sym w.one-is) w.surveyed_lone-one.ensures
+      | else-nobody_beside w ↦ subst (Surveyed _ _ 3) (sym w.one-is) w.surveyed_crowd-one.ensures
     ]
 
 pub loop-i-init : goal.loop-i-init
@@ -84,78 +83,63 @@ loop-i-init c =
     let none = c.no_sums-sums.ensures in
     (omega arith, refl, none, rw none no_guests_fit, counted_none seat_cards c.args.t.seats 80 _)
 
-pub count_seat-cards-requires : goal.count_seat-cards-requires
-count_seat-cards-requires c =
-    let at = c in
-    let start = at in
-    counted-room 720 80 start.requires at.loop-i.invariant.4 (omega arith)
+pub count_seat-requires : goal.count_seat-requires
+count_seat-requires c =
+    counted-room 720 80 c.requires c.loop-i.invariant.4 (omega arith)
 
 pub overflow_add-cards : goal.overflow_add-cards
 overflow_add-cards c = omega arith
 
 pub surveyed_lone-one-requires : goal.surveyed_lone-one-requires
-surveyed_lone-one-requires c = record { lone = sym c.lone.ensures ∙ c.if-lone.true; hands = c.looked_at-look.ensures }
+surveyed_lone-one-requires c = record { lone = sym c.nobody_beside.ensures ∙ c.if-nobody_beside.true; hands = c.looked_at-look.ensures }
 
 pub surveyed_crowd-one-requires : goal.surveyed_crowd-one-requires
 surveyed_crowd-one-requires c = c.looked_at-look.ensures
 
-pub returns-then-not-one : goal.returns-then-not-one
-returns-then-not-one c =
-    let met = c in
-    let turn = met in
-    let at = turn in
-    let start = at in
-    let t = start.args.t in
-    let card = at.up-card in
-    let dealt = at.is_dealt-dealt in
-    record {
-      seats = record {
-        each =
-            fails (passes t.options dealt.result card.result t.seats) at.loop-i.i (omega (arith, turn.loop-i-test.true)) (sym (joined (goal.at.returns-then-not-one met).Joined-lone).sound ∙ not-true _ c.if-not-one.true)
-            ∙ same t card.result dealt.result dealt.ensures card.ensures;
-        sums = λ e. absurd (true≢false (sym e));
-      };
-      counted = λ e. absurd (true≢false (sym e));
-    }
+pub returns-in_err-one : goal.returns-in_err-one
+returns-in_err-one c =
+    let t = c.args.t in
+    let card = c.up in
+    let dealt = c.is_dealt in
+    rw c.from_residual.ensures (record {
+      each =
+          fails (passes t.options dealt.result card.result t.seats) c.loop-i.i (omega (arith, c.loop-i-test.true)) (failed _ _ _ _ (joined (goal.at.returns-in_err-one c).Joined-nobody_beside) c.in_err-one.was)
+          ∙ same t card.result dealt.result dealt.ensures card.ensures;
+      sums = tt;
+      counted = tt;
+    })
 
 pub plus-sums-requires : goal.plus-sums-requires
 plus-sums-requires c =
-    let met = c in
-    let turn = met in
-    let at = turn in
-    record { left = fits_in_lem (3 * at.loop-i.i) 27 at.loop-i.sums (omega arith) at.loop-i.invariant.3; right = survey_fits _ _ 3 27 met.if-lone.one (omega arith) (joined (goal.at.plus-sums-requires met).Joined-lone) }
+    let one = passed _ _ 3 _ c.in_ok-one.field-0 (joined (goal.at.plus-sums-requires c).Joined-nobody_beside) c.in_ok-one.was in
+    record { left = fits_in_lem (3 * c.loop-i.i) 27 c.loop-i.sums (omega arith) c.loop-i.invariant.3; right = rw one.sums (fits_in_lem 3 27 _ (omega arith) one.fits) }
 
 pub loop-i-preserved : goal.loop-i-preserved
 loop-i-preserved c =
-    let met = c in
-    let turn = met in
-    let at = turn in
-    let start = at in
-    let t = start.args.t in
-    let card = at.up-card in
-    let dealt = at.is_dealt-dealt in
-    let i = at.loop-i.i in
+    let t = c.args.t in
+    let card = c.up in
+    let dealt = c.is_dealt in
+    let i = c.loop-i.i in
     let full : length t.seats ≡ 9 = search rules in
-    let one = joined (goal.at.loop-i-preserved met).Joined-lone in
-    let m = met.if-lone.one.sums in (
+    let m = c.in_ok-one.field-0 in
+    let one = passed _ _ 3 _ m (joined (goal.at.loop-i-preserved c).Joined-nobody_beside) c.in_ok-one.was in (
       omega arith,
-      below_passes (passes t.options dealt.result card.result t.seats) i (sym one.sound ∙ not-false _ c.if-not-one.false) ∙ at.loop-i.invariant.1,
-      c.plus-sums.ensures ∙ next-seat t.options t.seats i (omega arith) at.loop-i.sums m at.loop-i.invariant.2 one.sums,
-      three_more i at.loop-i.sums m c.plus-sums.result at.loop-i.invariant.3 (survey_fits _ _ 3 3 met.if-lone.one (omega arith) one) c.plus-sums.ensures,
-      counted (goal.at.loop-i-preserved met).Joined-hands-ne0,
+      below_passes (passes t.options dealt.result card.result t.seats) i (sym one.sound) ∙ c.loop-i.invariant.1,
+      c.plus-sums.ensures ∙ next-seat t.options t.seats i (omega arith) c.loop-i.sums m c.loop-i.invariant.2 one.sums,
+      three_more i c.loop-i.sums m c.plus-sums.result c.loop-i.invariant.3 (rw one.sums one.fits) c.plus-sums.ensures,
+      counted (goal.at.loop-i-preserved c).Joined-s-ne0,
     )
 
 pub returns : goal.returns
 returns c =
-    let at = c in
-    let start = at in
-    let t = start.args.t in
-    let card = at.up-card in
-    let dealt = at.is_dealt-dealt in
+    let t = c.args.t in
+    let card = c.up in
+    let dealt = c.is_dealt in
     let full : length t.seats ≡ 9 = search rules in
-    let nine : at.loop-i.i ≡ 9 = omega arith in
-    let all = take_all at.loop-i.i t.seats (omega arith) in
+    let nine : c.loop-i.i ≡ 9 = omega arith in
+    let all = take_all c.loop-i.i t.seats (omega arith) in
     record {
-      seats = record { each = sym (rw nine at at.loop-i.invariant.1) ∙ same t card.result dealt.result dealt.ensures card.ensures; sums = λ e. at.loop-i.invariant.2 ∙ ap (sums_over t.options) all };
-      counted = λ e. counted_is at.loop-i.invariant.4 (ap (flat seat_cards) all) (omega arith);
+      each = sym (rw nine at c.loop-i.invariant.1) ∙ same t card.result dealt.result dealt.ensures card.ensures;
+      sums = c.loop-i.invariant.2 ∙ ap (sums_over t.options) all;
+      counted = counted_is c.loop-i.invariant.4 (ap (flat seat_cards) all) (omega arith);
     }

@@ -36,19 +36,6 @@ counted_is {a} e same h = record { counters = e.counters ∙ ap (counted_all a) 
 pub counted-at : {a b c xs : List ℕ} {k l m : ℕ} → c ≡ b → l ≡ k → Counted a b xs k m → Counted a c xs l m
 counted-at e f counted = record { counters = e ∙ counted.counters; number = f ∙ counted.number; few = omega (arith, f, counted.few) }
 
--- the first cards of an array, of which a damaged count takes all
-module _ (a cards : List ℕ) (n k most : ℕ) (full : length cards ≡ most) where
-  pub room-first : Room a most → Room a (length (take k cards))
-  room-first room = room-less (length (take k cards)) room (omega (arith, length-take k cards))
-
-  pub counted-first : (b : List ℕ) → k ≡ min n most → b ≡ counted_all a (take k cards) → Counted a b (take n cards) k most
-  counted-first b e f =
-      record {
-        counters = f ∙ ap (counted_all a) (take_clamped cards n k (e ∙ ap (min n) (sym full)));
-        number = omega (arith, length-take n cards);
-        few = omega arith;
-      }
-
 module _ {A : Type 0} (f : A → List ℕ) (xs : List A) (most : ℕ) where
   -- nothing is counted yet
   pub counted_none : (a : List ℕ) → Counted a a (flat f (take 0 xs)) 0 (most * 0)

@@ -1,59 +1,48 @@
--- The early numbers and 18 are the list's; past them the bank's cards are known, and close pays by them.
+-- The early refusals and 18 are the list's; past them the bank's cards are known, and close pays by them.
+use mathlib.Core.Path.{◌≡◌, refl, ◌∙◌, ap}
 use native.Mathlib.Omega.{arith}
+use Rattle.cards.specs.Hand.{cards_of}
+use Rattle.call.specs.Refusal.{number_of}
+use Rattle.call.proofs.Refusals.{residual, refusal_some}
 use Rattle.table.proofs.Facts.{unbroken, decks_416}
-use Rattle.answer.specs.Reply.{given_of}
 use Rattle.answer.proofs.reply.Laws.{refused-step, accepted-step}
+use Rattle.close_spec.specs.BankDraw.{bank_at_close}
 use Rattle.close_spec.specs.Close.{close_conditions, close_effect, close_shown}
+use Rattle.close.specs.Settled.{closed_reply}
 use Rattle.close.proofs.Numbers.{early_refused, last_refused, all_accepted, closes}
+use Rattle.close.proofs.close.Goals.{After-must_draw}
 use Rattle.close.proofs.close.Goals as goal
 
-pub early_number-early-requires : goal.early_number-early-requires
-early_number-early-requires c = c.requires
+-- the bank's cards are those of the table
+cards : (c : After-must_draw) → cards_of c.bank_at_close-bank.result ≡ bank_at_close c.args.t.now
+cards c = c.bank_at_close-bank.ensures ∙ ap bank_at_close c.table-t.ensures.same
 
-pub returns-then-early-ne0 : goal.returns-then-early-ne0
-returns-then-early-ne0 c =
-    let early = c in
-    let start = early.args in
-    let t = start.t in
-    let n = early.early_number-early.result in
-    refused-step start.names.now start.nets.now (close_conditions t) (close_effect t) t (close_shown t) n c.plain_reply.result c.plain_reply.ensures
-    (early_refused t n early.early_number-early.ensures c.if-early-ne0.true) c.if-early-ne0.true
+pub returns-in_err-check_early : goal.returns-in_err-check_early
+returns-in_err-check_early c =
+    let t = c.args.t.now in
+    let why = c.in_err-check_early.field-0.0 in
+    refused-step c.args.names.now c.args.nets.now (close_conditions t) (close_effect t) t (close_shown t) (number_of why) _ (ap (closed_reply t) (residual _ c.from_residual.ensures.1))
+    (early_refused t (number_of why) c.in_err-check_early.ensures (refusal_some why)) (refusal_some why)
 
 pub bank_at_close-bank-requires : goal.bank_at_close-bank-requires
 bank_at_close-bank-requires c =
-    let start = c in
-    let sound = unbroken start.args.t start.requires in
-    (sound.drawn, decks_416 start.args.t sound)
+    let sound = unbroken c.args.t.now c.table-t.ensures.whole in
+    rw c.table-t.ensures.same (sound.drawn, decks_416 c.args.t.now sound)
 
 pub returns-then-must_draw : goal.returns-then-must_draw
 returns-then-must_draw c =
-    let asked = c in
-    let drawn = asked in
-    let past = drawn in
-    let early = past in
-    let start = early.args in
-    let t = start.t in
-    refused-step start.names.now start.nets.now (close_conditions t) (close_effect t) t (close_shown t) 18 c.plain_reply-then-must_draw.result c.plain_reply-then-must_draw.ensures
-    (last_refused t early.early_number-early.result early.early_number-early.ensures past.if-early-ne0.false drawn.bank_at_close-bank.result drawn.bank_at_close-bank.ensures asked.must_draw.result asked.must_draw.ensures c.if-must_draw.true)
+    let t = c.args.t.now in
+    refused-step c.args.names.now c.args.nets.now (close_conditions t) (close_effect t) t (close_shown t) 18 _ refl
+    (last_refused t 0 c.in_ok-check_early.ensures refl _ (cards (goal.at.returns-then-must_draw c).After-must_draw) _ c.must_draw.ensures c.if-must_draw.true)
     (λ none. absurd (omega arith))
 
-pub settled-requires : goal.settled-requires
-settled-requires c =
-    let stood = c in
-    let asked = stood in
-    let drawn = asked in
-    let past = drawn in
-    let early = past in
-    closes early.args.t early.early_number-early.result early.early_number-early.ensures past.if-early-ne0.false drawn.bank_at_close-bank.result drawn.bank_at_close-bank.ensures asked.must_draw.result asked.must_draw.ensures stood.if-must_draw.false
+pub settle-requires : goal.settle-requires
+settle-requires c =
+    rw c.table-t.ensures.same
+    (closes c.args.t.now 0 c.in_ok-check_early.ensures refl _ (cards (goal.at.settle-requires c).After-must_draw) _ c.must_draw.ensures c.if-must_draw.false)
 
 pub returns : goal.returns
 returns c =
-    let stood = c in
-    let asked = stood in
-    let drawn = asked in
-    let past = drawn in
-    let early = past in
-    let start = early.args in
-    let t = start.t in
-    accepted-step start.names.now start.nets.now (close_conditions t) (close_effect t) t (close_shown t) (given_of c.settled.result _ _) c.settled.ensures
-    (all_accepted t early.early_number-early.result early.early_number-early.ensures past.if-early-ne0.false drawn.bank_at_close-bank.result drawn.bank_at_close-bank.ensures asked.must_draw.result asked.must_draw.ensures stood.if-must_draw.false)
+    let t = c.args.t.now in
+    accepted-step c.args.names.now c.args.nets.now (close_conditions t) (close_effect t) t (close_shown t) _ (rw c.table-t.ensures.same at c.settle.ensures)
+    (all_accepted t 0 c.in_ok-check_early.ensures refl _ (cards (goal.at.returns c).After-must_draw) _ c.must_draw.ensures c.if-must_draw.false)

@@ -1,18 +1,14 @@
--- The number decides: the table as it was, or the effect.
-use mathlib.Core.Path.{sym, ◌∙◌}
-use Rattle.answer.proofs.outcome.Laws.{refused, accepted}
-use Rattle.deal_spec.specs.Deal.{deal_conditions, deal_effect}
+-- Why it is refused, or the effect.
+use mathlib.Core.Path.{sym, ◌∙◌, ap}
+use Rattle.answer.proofs.outcome.Laws.{refused-whole, accepted}
+use Rattle.deal_spec.specs.Deal.{deal_effect}
 use Rattle.deal.proofs.deal.Goals as goal
 
-pub returns-then-number-ne0 : goal.returns-then-number-ne0
-returns-then-number-ne0 c =
-    let t = c.args.t in
-    refused (deal_conditions t) (deal_effect t) t _ c.deal_number-number.ensures c.if-number-ne0.true
+pub returns-in_err-check_deal : goal.returns-in_err-check_deal
+returns-in_err-check_deal c = refused-whole _ _ _ _ _ c.from_residual.ensures.1 c.in_err-check_deal.ensures
 
 pub dealt-requires : goal.dealt-requires
-dealt-requires c = sym c.deal_number-number.ensures ∙ c.if-number-ne0.false
+dealt-requires c = rw c.table.ensures.same (sym c.in_ok-check_deal.ensures)
 
 pub returns : goal.returns
-returns c =
-    let t = c.args.t in
-    accepted (deal_conditions t) (deal_effect t) t _ _ c.deal_number-number.ensures c.if-number-ne0.false c.dealt.ensures
+returns c = accepted _ _ _ c.in_ok-check_deal.ensures (c.dealt.ensures ∙ ap deal_effect c.table.ensures.same)

@@ -14,14 +14,7 @@ returns-then-broken c =
     let t = asked.args.t in
     c.made.ensures ∙ held_all t lit.all_dark.result none.no_rows.result lit.all_dark.ensures (held_none t (sym asked.broken.ensures ∙ lit.if-broken.true) none.no_rows.result none.no_rows.ensures)
 
-pub all_lights-requires : goal.all_lights-requires
-all_lights-requires c = sym c.broken.ensures ∙ c.if-broken.false
-
-pub all_rows-requires : goal.all_rows-requires
-all_rows-requires c = sym c.broken.ensures ∙ c.if-broken.false
-
 pub returns : goal.returns
 returns c =
-    let rows = c in
-    let lit = rows in
-    c.made-2.ensures ∙ held_all lit.args.t lit.all_lights.result rows.all_rows.result lit.all_lights.ensures rows.all_rows.ensures
+    let same = c.new-whole.ensures in
+    c.made-2.ensures ∙ held_all c.args.t c.all_lights.result c.all_rows.result (rw same at c.all_lights.ensures) (rw same at c.all_rows.ensures)

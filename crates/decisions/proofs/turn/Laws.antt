@@ -16,7 +16,7 @@ use Rattle.rules.proofs.seat_hand.Places.{many_hands}
 use Rattle.rules.specs.Waits.{waits}
 use Rattle.rules.specs.Turn.{seat_waits, waiting_place}
 use Rattle.call.specs.Refusal.{Condition, first}
-use Rattle.call.proofs.Refusals.{first-before, first-behind}
+use Rattle.call.proofs.Refusals.{first-behind}
 use Rattle.table.specs.declared.Seat.{Seat}
 use Rattle.table.specs.declared.Table.{Table}
 use Rattle.table.specs.Seat.{hands}
@@ -30,18 +30,14 @@ use Rattle.decisions.specs.Aids.InTurn.{InTurn}
 pub in_turn_lem : (t : Table) (j : ℕ) → TurnAccepted t j → InTurn t j
 in_turn_lem t j a = record { nine = a.acting.nine; waits = a.waits }
 
-module _ (t : Table) (j p n : ℕ) (e : n ≡ first (turn_conditions t j p)) where
-  pub turn_refuses : (n ≡ 0 → ⊥) → (rest : List Condition) → n ≡ first (turn_conditions t j p ++ rest)
-  turn_refuses some rest = sym (first-before (turn_conditions t j p) rest n (sym e) some)
+module _ (t : Table) (j p : ℕ) (none : 0 ≡ first (turn_conditions t j p)) where
+  pub turn-passes : (rest : List Condition) → first (turn_conditions t j p ++ rest) ≡ first rest
+  unfolding turn_conditions guest_conditions seat_conditions all_of
+  turn-passes rest = first-behind (turn_conditions t j p) rest refl (sym none)
 
-  module _ (none : n ≡ 0) where
-    pub turn-passes : (rest : List Condition) → first (turn_conditions t j p ++ rest) ≡ first rest
-    unfolding turn_conditions guest_conditions seat_conditions all_of
-    turn-passes rest = first-behind (turn_conditions t j p) rest refl (sym e ∙ none)
-
-    pub turn_comes : InTurn t j
-    unfolding turn_conditions guest_conditions seat_conditions all_of
-    turn_comes = in_turn_lem t j (turn-accepted t j p [] refl (sym e ∙ none)).0
+  pub turn_comes : InTurn t j
+  unfolding turn_conditions guest_conditions seat_conditions all_of
+  turn_comes = in_turn_lem t j (turn-accepted t j p [] refl (sym none)).0
 
 -- the same of the seat and the up card as the code has read them
 pub read_waits : (t : Table) (j : ℕ) (card : ℕ) (s : Seat) → InTurn t j → card ≡ up t → s ≡ seat_at t j → seat_waits t.options card (hands s) ≡ true
@@ -53,7 +49,3 @@ pub place_of-four : (o : Options) (card : ℕ) (s : Seat) → length s.hands.pla
 place_of-four o card s full some =
     let inside : waiting_place o card (hands s) < length (hands s) = ltb-true _ _ (first_inside (waits o card (length (hands s))) (hands s) ∙ some) in
     omega (arith, many_hands s.hands full)
-
--- what the rules say of a hand, by its seat's number of hands and the hand as the code has read them
-pub same-hand : (permits : ℕ → Played → Bool) (many n : ℕ) (h k : SeatHand) → many ≡ n → h ≡ k → permits many (played_of h) ≡ permits n (played_of k)
-same-hand permits many n h k same-many same = ap (λ (i : ℕ). permits i (played_of h)) same-many ∙ ap (λ (x : SeatHand). permits n (played_of x)) same

@@ -7,9 +7,7 @@ use Rattle.display.proofs.shown_bank.Goals as goal
 pub returns-then-is_dealt : goal.returns-then-is_dealt
 unfolding bank_shown
 returns-then-is_dealt c =
-    let card = c in
-    let dealt = card in
-    simp (sym dealt.is_dealt.ensures ∙ dealt.if-is_dealt.true) (c.with_card.ensures ∙ ap₂ with_card card.empty_hand.ensures card.up.ensures)
+    simp (sym c.is_dealt.ensures ∙ c.if-is_dealt.true) (c.with_card.ensures ∙ ap₂ with_card c.empty_hand.ensures c.up.ensures)
 
 pub returns : goal.returns
 unfolding bank_shown

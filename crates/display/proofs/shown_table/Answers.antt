@@ -15,11 +15,9 @@ returns-then-broken c = rw (sym c.broken.ensures ∙ c.if-broken.true) c.no_tabl
 pub returns : goal.returns
 unfolding table_shown
 returns c =
-    let summed = c in
-    let asked = summed in
-    let t = asked.args.t in
-    let whole = sym asked.broken.ensures ∙ summed.if-broken.false in
-    let sums = summed.table_sums-sums in
+    let t = c.args.t in
+    let whole = sym c.broken.ensures ∙ c.if-broken.false in
+    let sums = c.table_sums-sums in
     let laid : sums.result.laid ≡ layout t = ap (λ (m : Sums). m.laid) sums.ensures in
     let own : sums.result.purses ≡ purses t = ap (λ (m : Sums). m.purses) sums.ensures ∙ within-capped t.seats (omega (arith, (unbroken t whole).money)) in
     rw (whole, laid, own, c.cards_left.ensures, c.shown_bank.ensures)

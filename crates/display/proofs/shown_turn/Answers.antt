@@ -14,12 +14,10 @@ returns-then-broken c = rw (sym c.broken.ensures ∙ c.if-broken.true) c.nobody.
 pub returns-then-seat-ge9 : goal.returns-then-seat-ge9
 unfolding turn_shown
 returns-then-seat-ge9 c =
-    let seat = c in
-    let start = seat in
-    let full : length start.args.t.seats ≡ 9 = search rules in
+    let full : length c.args.t.seats ≡ 9 = search rules in
     rw (
-      sym seat.broken.ensures ∙ seat.if-broken.false,
-      waits_below start.args.t full _ seat.seat_in_turn-seat.ensures ∙ le-ltb _ _ c.if-seat-ge9.true,
+      sym c.broken.ensures ∙ c.if-broken.false,
+      waits_below c.args.t full _ c.seat_in_turn-seat.ensures ∙ le-ltb _ _ c.if-seat-ge9.true,
     )
     c.nobody-then-seat-ge9.ensures
 
@@ -29,15 +27,12 @@ seat_at-requires c = search (rules, c.if-seat-ge9.false)
 pub returns : goal.returns
 unfolding turn_shown
 returns c =
-    let placed = c in
-    let seat = placed in
-    let start = seat in
-    let full : length start.args.t.seats ≡ 9 = search rules in
+    let full : length c.args.t.seats ≡ 9 = search rules in
     rw (
-      sym seat.broken.ensures ∙ seat.if-broken.false,
-      waits_below start.args.t full _ seat.seat_in_turn-seat.ensures ∙ lt-ltb _ _ placed.if-seat-ge9.false,
+      sym c.broken.ensures ∙ c.if-broken.false,
+      waits_below c.args.t full _ c.seat_in_turn-seat.ensures ∙ lt-ltb _ _ c.if-seat-ge9.false,
       c.decider.ensures,
       c.seat_at.ensures,
-      seat.seat_in_turn-seat.ensures,
-      placed.place_in_turn.ensures,
+      c.seat_in_turn-seat.ensures,
+      c.place_in_turn.ensures,
     )

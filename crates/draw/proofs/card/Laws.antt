@@ -8,22 +8,20 @@ use Rattle.lists.proofs.Sums.{sum_has}
 use Rattle.options.specs.declared.Options.{Options}
 use Rattle.rules.specs.declared.seat_hand.SeatHand.{SeatHand}
 use Rattle.rules.specs.SeatHand.{Played, played_of}
-use Rattle.rules.specs.Turn.{waiting_place}
 use Rattle.payment.specs.Prize.{prize, most_prize}
 use Rattle.payment.proofs.Bounds.{prize_most}
 use Rattle.table.specs.declared.Money.{Money}
 use Rattle.table.specs.declared.Seat.{Seat}
 use Rattle.table.specs.declared.Table.{Table}
 use Rattle.table.specs.Guest.{missing_money}
-use Rattle.table.specs.Seat.{make_seat, missing_seat, guest_at, over_guests, purse, stake, hands}
-use Rattle.table.specs.Table.{seat_at, guest_of, up, cards_left}
+use Rattle.table.specs.Seat.{make_seat, missing_seat, guest_at, over_guests, purse, stake}
+use Rattle.table.specs.Table.{seat_at, guest_of, cards_left}
 use Rattle.table.proofs.Facts.{unbroken, decks_416}
 use Rattle.table.proofs.Guests.{over_has}
 use Rattle.table.proofs.Cover.{tray_covers}
 use Rattle.answer.specs.Moved.{make_moved, moved_table}
-use Rattle.decisions_spec.specs.Place.{place_of}
 use Rattle.decisions_spec.specs.Card.{card_ahead, card_money, card_effect}
-use Rattle.decisions_spec.specs.Turn.{waiting_place_of}
+use Rattle.decisions_spec.specs.Turn.{waiting_place_of, waiting_hand_of}
 use Rattle.decisions_spec.proofs.Turn.{TurnAccepted}
 use Rattle.decisions.proofs.turn.Laws.{in_turn_lem}
 use Rattle.draw.specs.Aids.Grown.{grown_by, grown_seat}
@@ -44,13 +42,12 @@ pub all_most : (o : Options) (h : Played) (s : Seat) → over_guests (λ g. priz
 all_most o h s = omega (arith, prize_most o (stake (guest_at s 0)) h, prize_most o (stake (guest_at s 1)) h, prize_most o (stake (guest_at s 2)) h)
 
 -- the seat as the code makes it
-pub seat_is : (o : Options) (card times : ℕ) (s : Seat) (h : SeatHand) {p : ℕ} {seated : Money} {others : List Money} {r : Seat}
+pub seat_is : (o : Options) (times : ℕ) (s : Seat) (h : SeatHand) (p : ℕ) {seated : Money} {others : List Money} {r : Seat}
     → r ≡ make_seat seated others (record { places = set s.hands.places p h; many = s.hands.many }) s.first
-    → p ≡ waiting_place o card (hands s)
     → seated ≡ card_money o times (played_of h) s.money
     → others ≡ map (card_money o times (played_of h)) s.others
-    → r ≡ grown_seat o card s h times
-seat_is o card times s h stored place is-seated are-others = rw (stored, place, is-seated, are-others)
+    → r ≡ grown_seat o p s h times
+seat_is o times s h p stored is-seated are-others = rw (stored, is-seated, are-others)
 
 module _ (t : Table) (j times : ℕ) where
   pub drawable : length t.seats ≡ 9 → TurnAccepted t j → times ≤ 1 → ((p : ℕ) → p < 3 → times * stake (guest_of t j p) ≤ purse (guest_of t j p)) → 1 ≤ cards_left t → Drawable t j times
@@ -71,17 +68,15 @@ module _ (t : Table) (j times : ℕ) where
         card_left = omega (arith, decks_416 t sound);
       }
 
-  pub next_is : (code hand : ℕ) {card ahead won : ℕ} {s seat : Seat} {h : SeatHand}
-      → seat ≡ grown_seat t.options card s h times
-      → won ≡ over_guests (λ g. prize t.options (stake g) (played_of h)) s
-      → h ≡ grown_by (place_of s (waiting_place t.options card (hands s))) ahead code
-      → ahead ≡ card_ahead t 0
-      → card ≡ up t
+  pub next_is : (code hand : ℕ) {u : Table} {p ahead won : ℕ} {s seat : Seat} {h waiting : SeatHand}
+      → u ≡ t
+      → seat ≡ grown_seat u.options p s h times
+      → won ≡ over_guests (λ g. prize u.options (stake g) (played_of h)) s
+      → h ≡ grown_by waiting ahead code
+      → ahead ≡ card_ahead u 0
+      → p ≡ waiting_place_of t j
+      → waiting ≡ waiting_hand_of t j
       → s ≡ seat_at t j
-      → moved_table t j (make_moved 0 (t.tray - won) seat (t.shoe.drawn + 1) hand) ≡ card_effect times code t j
+      → moved_table t j (make_moved (u.tray - won) seat (u.shoe.drawn + 1) hand) ≡ card_effect times code t j
   unfolding card_effect
-  next_is code hand grows pays grew next upped same = rw (grows, pays, grew, next, upped, same)
-
--- the place of the hand, by the seat and the up card as the code has read them
-pub place_is : (t : Table) (j : ℕ) {hand card : ℕ} {s : Seat} → hand ≡ waiting_place t.options card (hands s) → card ≡ up t → s ≡ seat_at t j → hand ≡ waiting_place_of t j
-place_is t j waits upped same = rw (waits, upped, same)
+  next_is code hand read grows pays grew next place waits same = rw (grows, pays, grew, next, place, waits, same, read)

@@ -17,10 +17,6 @@ splits t j a =
     let most = (sound_options t sound).hands_most in
     record {
       turn = turn;
-      pays = record { waits = turn.waits; room = most_many t.options (is_dealt t) (up t) j (seat_at t j) most (sound.seats j turn.nine); enough = a.enough };
+      pays = record { room = most_many t.options (is_dealt t) (up t) j (seat_at t j) most (sound.seats j turn.nine); enough = a.enough };
       two_left = omega (arith, a.left, decks_416 t sound);
     }
-
--- the same of the seat and the up card as the code has read them
-pub read_pays : (t : Table) (j card : ℕ) (s : Seat) → card ≡ up t → s ≡ seat_at t j → Splits t j → Pays t.options card s
-read_pays t j card s same-card same-seat splits = rw (same-card, same-seat) splits.pays

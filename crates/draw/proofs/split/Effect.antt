@@ -9,14 +9,15 @@ use Rattle.table.specs.declared.Money.{Money}
 use Rattle.table.specs.declared.Seat.{Seat}
 use Rattle.table.specs.declared.Table.{Table}
 use Rattle.table.specs.Seat.{make_seat}
-use Rattle.table.specs.Table.{seat_at, up}
+use Rattle.table.specs.Table.{seat_at}
 use Rattle.answer.specs.Moved.{make_moved, moved_table}
 use Rattle.decisions_spec.specs.Card.{card_ahead}
+use Rattle.decisions_spec.specs.Turn.{waiting_place_of, waiting_hand_of}
 use Rattle.decisions_spec.specs.Split.{split_hand, split_places, split_first, staked_again, split_effect}
-use Rattle.draw.specs.Aids.Splits.{two_for, split_seat}
+use Rattle.draw.specs.Aids.Splits.{two_for}
 
--- the seat: its guests' money, the first cards, the places, and the hand and its place as the code has read them
-pub same-two : (s : Seat) (first second : ℕ) {seated : Money} {others : List Money} {cards : List ℕ} {places : List SeatHand} {p q kept-first kept_second : ℕ} {h k parent new : SeatHand}
+-- the seat: its guests' money, the first cards, the places, and the two hands
+pub same-two : (s : Seat) (p : ℕ) (h : SeatHand) (first second : ℕ) {seated : Money} {others : List Money} {cards : List ℕ} {places : List SeatHand} {kept-first kept_second : ℕ} {parent new : SeatHand}
     → seated ≡ staked_again s.money
     → others ≡ map staked_again s.others
     → cards ≡ split_first s first
@@ -25,20 +26,20 @@ pub same-two : (s : Seat) (first second : ℕ) {seated : Money} {others : List M
     → kept-first ≡ get_or (cards_of h.hand) 0 0
     → new ≡ split_hand kept_second second
     → kept_second ≡ get_or (cards_of h.hand) 1 0
-    → p ≡ q
-    → h ≡ k
-    → make_seat seated others (record { places = places; many = s.hands.many + 1 }) cards ≡ two_for s q k first second
+    → make_seat seated others (record { places = places; many = s.hands.many + 1 }) cards ≡ two_for s p h first second
 unfolding two_for
-same-two s first second is-seated are-others keeps puts is-parent keeps-first is-new keeps-second same_place same-hand =
-    rw (is-seated, are-others, keeps, puts, is-parent, keeps-first, is-new, keeps-second, same_place, same-hand)
+same-two s p h first second is-seated are-others keeps puts is-parent keeps-first is-new keeps-second =
+    rw (is-seated, are-others, keeps, puts, is-parent, keeps-first, is-new, keeps-second)
 
--- what it moves: that seat, with the seat and the up card as the code has read them, and two cards drawn
-pub same_effect : (t : Table) (j hand : ℕ) {card first second : ℕ} {s next : Seat}
-    → next ≡ split_seat t.options card s first second
-    → first ≡ card_ahead t 0
-    → second ≡ card_ahead t 1
-    → card ≡ up t
+-- what it moves: that seat, with the hand and its place as the code has read them, and two cards drawn
+pub same_effect : (t : Table) (j hand : ℕ) {u : Table} {p first second : ℕ} {h : SeatHand} {s next : Seat}
+    → u ≡ t
+    → next ≡ two_for s p h first second
+    → first ≡ card_ahead u 0
+    → second ≡ card_ahead u 1
+    → p ≡ waiting_place_of t j
+    → h ≡ waiting_hand_of t j
     → s ≡ seat_at t j
-    → moved_table t j (make_moved 0 t.tray next (t.shoe.drawn + 2) hand) ≡ split_effect t j
+    → moved_table t j (make_moved u.tray next (u.shoe.drawn + 2) hand) ≡ split_effect t j
 unfolding split_effect two_for
-same_effect t j hand splits is-first is-second upped same = rw (splits, is-first, is-second, upped, same)
+same_effect t j hand read splits is-first is-second place waits same = rw (splits, is-first, is-second, place, waits, same, read)

@@ -1,10 +1,9 @@
 -- An arrival asks first what every call of a guest asks, and then whether position and card are free and no stake lies there.
 use mathlib.Core.Path.{◌≡◌, refl, ◌∙◌, ap, ap₂}
-use mathlib.Core.Bool.{false, not}
+use mathlib.Core.Bool.{Bool, false, not}
 use mathlib.Core.List.{List, [], ◌∷◌, ◌++◌}
 use Prim.Native.Nat.{ℕ, ◌<◌}
 use lib.Dec.{ltb}
-use lib.ListN.{length}
 use borrow.Author.Tests.{leb-false}
 use Rattle.lists.specs.Tests.{all_of}
 use Rattle.lists.proofs.Tests.{or_eq_false}
@@ -17,10 +16,9 @@ use Rattle.table.specs.Broken.{broken}
 use Rattle.table.proofs.Facts.{seat_of-nine}
 use Rattle.answer.specs.Conditions.{between_rounds, seat_conditions, guest_conditions}
 use Rattle.host_spec.specs.declared.Hosted.{Hosted}
-use Rattle.host_spec.specs.Cards.{is_here, card_at, sits_here, place_of}
+use Rattle.host_spec.specs.Cards.{is_here, card_at, sits_here}
 use Rattle.host_spec.specs.Broken.{sound_cards, host_broken}
 use Rattle.host_spec.specs.Arrive.{arrive_conditions}
-use Rattle.host.proofs.leave.Laws.{sits_inside}
 
 pub whole_table : (h : Hosted) → host_broken h ≡ false → broken h.table ≡ false
 unfolding host_broken
@@ -34,13 +32,12 @@ pub arrive_asks : (h : Hosted) (j p card : ℕ) → host_broken h ≡ false → 
 unfolding first arrive_conditions seat_conditions guest_conditions
 arrive_asks h j p card whole = rw (whole, whole_table h whole) refl
 
-pub taken_is : (h : Hosted) (j p card place : ℕ) (m : Money) {a b n : ℕ} → length h.cards ≡ 27 → place ≡ place_of h card → m ≡ (guest_of h.table j p).money
-    → a ≡ asked 9 (ltb 0 m.stake) 0 → b ≡ asked 28 (ltb place 27) a → n ≡ asked 28 (is_here (card_at h j p)) b → n ≡ first (taken h j p card)
+pub taken_is : (h : Hosted) (j p card : ℕ) (there : Bool) (m : Money) {n : ℕ} → there ≡ sits_here h card → m ≡ (guest_of h.table j p).money
+    → n ≡ asked 28 (is_here (card_at h j p)) (asked 28 there (asked 9 (ltb 0 m.stake) 0)) → n ≡ first (taken h j p card)
 unfolding first
-taken_is h j p card place m long found money stake sits here =
+taken_is h j p card there m found money here =
     here
-    ∙ ap (asked 28 (is_here (card_at h j p)))
-    (sits ∙ ap₂ (asked 28) (ap (λ (k : ℕ). ltb k 27) found ∙ sits_inside h card long) (stake ∙ ap (λ (x : Money). asked 9 (ltb 0 x.stake) 0) money))
+    ∙ ap (asked 28 (is_here (card_at h j p))) (ap₂ (asked 28) found (ap (λ (x : Money). asked 9 (ltb 0 x.stake) 0) money))
 
 -- where nothing of it holds, the seat is one of the nine, the position one of the three
 pub arrive_inside : (h : Hosted) (j p card : ℕ) → first (arrive_conditions h j p card) ≡ 0 → (j < 9) × (p < 3)

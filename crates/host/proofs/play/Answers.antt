@@ -11,15 +11,13 @@ sound c = sym c.cards_sound.ensures ∙ c.if-not-cards_sound.false
 
 pub returns-then-not-cards_sound : goal.returns-then-not-cards_sound
 returns-then-not-cards_sound c =
-    let asked = c in
     let a = c.args in
-    damaged_cards a.h a.c a.order.now a.names.now a.nets.now _ (sym asked.cards_sound.ensures ∙ c.if-not-cards_sound.true) c.plain_host_reply.ensures
+    damaged_cards a.h a.c a.order.now a.names.now a.nets.now _ (sym c.cards_sound.ensures ∙ c.if-not-cards_sound.true) c.plain_host_reply.ensures
 
 pub returns-then-answer-ne0 : goal.returns-then-answer-ne0
 returns-then-answer-ne0 c =
-    let told = c in
-    let a = told.args in
-    played-refused a.h a.c a.order.now (sound (goal.at.returns-then-answer-ne0 told).After-step-reply) a.names.now _ a.nets.now _ told.step-reply.result told.step-reply.ensures c.if-answer-ne0.true
+    let a = c.args in
+    played-refused a.h a.c a.order.now (sound (goal.at.returns-then-answer-ne0 c).After-step-reply) a.names.now _ a.nets.now _ c.step-reply.result c.step-reply.ensures c.if-answer-ne0.true
 
 pub counted-requires : goal.counted-requires
 counted-requires c =
@@ -35,14 +33,12 @@ counted-requires c =
 
 pub returns-then-is_close : goal.returns-then-is_close
 returns-then-is_close c =
-    let told = c in
-    let a = told.args in
-    played-close a.h a.c a.order.now (sound (goal.at.returns-then-is_close told).After-step-reply) a.names.now _ a.nets.now _ told.step-reply.result told.step-reply.ensures c.if-answer-ne0.false
+    let a = c.args in
+    played-close a.h a.c a.order.now (sound (goal.at.returns-then-is_close c).After-step-reply) a.names.now _ a.nets.now _ c.step-reply.result c.step-reply.ensures c.if-answer-ne0.false
     (c.is_close.ensures.known c.if-is_close.true) _ c.counted.ensures
 
 pub returns : goal.returns
 returns c =
-    let told = c in
-    let a = told.args in
-    played_other a.h a.c a.order.now (sound (goal.at.returns told).After-step-reply) a.names.now _ a.nets.now _ told.step-reply.result told.step-reply.ensures c.if-answer-ne0.false
+    let a = c.args in
+    played_other a.h a.c a.order.now (sound (goal.at.returns c).After-step-reply) a.names.now _ a.nets.now _ c.step-reply.result c.step-reply.ensures c.if-answer-ne0.false
     (sym c.is_close.ensures.same ∙ c.if-is_close.false)

@@ -1,13 +1,16 @@
--- Tests over the places: one that fails decides; a place without a card is no second one of any card.
+-- Tests over the places: one that fails decides; a place without a card is no second one of any card; and the places before one.
 use mathlib.Core.Path.{◌≡◌, refl, sym, ◌∙◌, ap, ap₂}
 use mathlib.Core.Bool.{Bool, true, false, not, ◌&&◌, ◌||◌, and-false, true≢false}
 use mathlib.Core.List.{List}
-use Prim.Native.Nat.{ℕ, ◌/◌, ◌<◌}
+use Prim.Native.Nat.{ℕ, zero, suc, ◌/◌, ◌<◌, ◌≤◌}
+use native.Mathlib.Omega.{arith}
 use lib.Dec.{ltb, eqb}
-use lib.ListN.{get_or}
+use lib.ListN.{get_or, length, take}
 use borrow.Author.Tests.{ne_eqb}
 use Rattle.lists.specs.Below.{all_below}
-use Rattle.lists.proofs.Below.{all_below_lem, below_all}
+use Rattle.lists.proofs.Below.{all_below_lem}
+use Rattle.lists.specs.Tests.{any_of}
+use Rattle.lists.proofs.Tests.{any_take, not_any}
 use Rattle.host_spec.specs.declared.GuestCard.{GuestCard}
 use Rattle.options.specs.declared.Options.{Options}
 use Rattle.host_spec.specs.Cards.{no_card, is_here, holds}
@@ -20,15 +23,30 @@ one_fails test n i h failed = go (all_below test n) refl
     go true all = absurd (true≢false (sym (all_below_lem test n i all h) ∙ failed))
     go false all = refl
 
--- the card of place k does not sit at place j
-abbrev pub new_at : List GuestCard → ℕ → ℕ → Bool
-new_at cards k j = not (is_here (get_or cards j no_card) && holds (get_or cards j no_card).card (get_or cards k no_card))
+-- a place without a card holds none
+pub sits_nowhere : (g : GuestCard) (cards : List GuestCard) → (g.here ≡ 1 → ⊥) → any_of (λ f. is_here f && holds f.card g) cards ≡ false
+sits_nowhere g cards away =
+    not_any (λ f. is_here f && holds f.card g) cards no_card
+    (λ i h.
+    let f = get_or cards i no_card in
+    ap (λ (b : Bool). is_here f && (b && eqb g.card f.card)) (ne_eqb g.here 1 away) ∙ and-false (is_here f))
 
-pub passed_over : (cards : List GuestCard) (k : ℕ) → ((get_or cards k no_card).here ≡ 1 → ⊥) → true ≡ all_below (new_at cards k) k
-passed_over cards k away =
-    sym (below_all (new_at cards k) k (λ j h.
-    let f = get_or cards j no_card in
-    ap (λ (b : Bool). not (is_here f && (b && eqb (get_or cards k no_card).card f.card))) (ne_eqb (get_or cards k no_card).here 1 away) ∙ ap not (and-false (is_here f))))
+-- the places before one, asked one by one
+not_or : (a b : Bool) → not (a || b) ≡ not a && not b
+not_or true b = refl
+not_or false b = refl
+
+pub none_before : {A : Type 0} (test : A → Bool) (xs : List A) (d : A) (n : ℕ) → n ≤ length xs → not (any_of test (take n xs)) ≡ all_below (λ j. not (test (get_or xs j d))) n
+unfolding all_below any_of
+none_before test xs d zero h = refl
+none_before test xs d (suc n) h =
+    ap not (any_take test xs n d h)
+    ∙ not_or (any_of test (take n xs)) (test (get_or xs n d))
+    ∙ ap (λ (b : Bool). b && not (test (get_or xs n d))) (none_before test xs d n (omega arith))
+
+-- the card of a place sits at none before it
+abbrev pub passes : List GuestCard → ℕ → Bool
+passes cards k = all_below (λ j. not (is_here (get_or cards j no_card) && holds (get_or cards j no_card).card (get_or cards k no_card))) k
 
 -- a card's test, by its parts
 module _ (o : Options) (k : ℕ) (g : GuestCard) where

@@ -6,4 +6,4 @@ use Rattle.host_spec.specs.Cards.{hosted}
 use Rattle.host.proofs.without_cards.Goals as goal
 
 pub returns : goal.returns
-returns c = ap (λ (g : GuestCard). hosted c.args.table (replicate 27 g)) c.no_card-none.ensures
+returns c = ap (λ (g : GuestCard). hosted c.args.table (replicate 27 g)) c.no_card.ensures

@@ -1,5 +1,5 @@
 -- A seat's hands in use, as a loop over its places sees them: what it adds up hand by hand, and how much a seat can have laid and won in prizes.
-use mathlib.Core.Path.{◌≡◌, ap}
+use mathlib.Core.Path.{◌≡◌, ap, ◌∙◌}
 use mathlib.Core.Bool.{cond}
 use Prim.Native.Nat.{ℕ, ◌+◌, ◌*◌, ◌≤◌, ◌<◌, min}
 use native.Mathlib.Nat.{mul-le-mul_left}
@@ -10,9 +10,12 @@ use lib.ListN.{length, take, get_or, length-map}
 use lib.Seq.{take_all}
 use Rattle.lists.specs.Sum.{sum_of}
 use Rattle.lists.proofs.Picks.{cond_most}
-use Rattle.lists.proofs.Sums.{sum-take, sum-most}
+use Rattle.std.specs.List.{sum_by}
+use Rattle.lists.proofs.Sums.{sum-take, sum-most, sum-map}
+use Rattle.lists.proofs.Chains.{sum_of-sum_by}
 use Rattle.lists.proofs.Takes.{count-taken}
 use Rattle.options.specs.declared.Options.{Options}
+use Rattle.rules.specs.declared.seat_hand.SeatHand.{SeatHand}
 use Rattle.rules.specs.declared.seat_hand.SeatHands.{SeatHands}
 use Rattle.rules.specs.SeatHand.{Played, played_of, hands_of}
 use Rattle.rules.proofs.seat_hand.Places.{none, many_hands, hand_at}
@@ -38,6 +41,13 @@ module _ (f : Played → ℕ) (s : SeatHands) (full : length s.places ≡ 4) whe
   hands_most k most =
       let few : length (hands_of s) ≤ 4 = omega (arith, many_hands s full) in
       omega (arith, mul-le-mul_left k few, sum-most f k most (hands_of s))
+
+  -- as a chain over the places in use adds them
+  pub hands-added : sum_of f (hands_of s) ≡ sum_by (λ (h : SeatHand). f (played_of h)) (take s.many s.places)
+  hands-added = sum-map f played_of (take s.many s.places) ∙ sum_of-sum_by (λ (h : SeatHand). f (played_of h)) (take s.many s.places)
+
+  pub added_most : (k : ℕ) → ((h : Played) → f h ≤ k) → sum_by (λ (h : SeatHand). f (played_of h)) (take s.many s.places) ≤ 4 * k
+  added_most k most = rw (← hands-added) (hands_most k most)
 
 -- a seat has no hand exactly if its count is 0
 pub no_hand : (s : SeatHands) → length s.places ≡ 4 → eqb (length (hands_of s)) 0 ≡ eqb s.many 0

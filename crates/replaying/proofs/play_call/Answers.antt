@@ -8,8 +8,8 @@ use Rattle.engine.specs.Step.{step}
 use Rattle.replaying.proofs.Plays.{next-whole, reply_next}
 use Rattle.replaying.proofs.play_call.Goals as goal
 
-pub step_checked-requires : goal.step_checked-requires
-step_checked-requires c = c.requires.sound
+pub new-requires : goal.new-requires
+new-requires c = c.requires.sound
 
 pub returns : goal.returns
 returns c =
@@ -17,5 +17,5 @@ returns c =
     let t = args.t in
     let call = args.h.call in
     let order = take args.h.cards (drop args.h.order args.file.now) in
-    let given = c.step_checked.ensures ∙ ap (λ (l : List ℕ). given_by (step t call l) args.names.now args.nets.now) c.part.ensures in
-    record { step = given; whole = rw (reply_next t call order c.step_checked.result _ _ _ _ given) (next-whole t call order c.requires) }
+    let given = (rw c.new.ensures at c.step_whole.ensures) ∙ ap (λ (l : List ℕ). given_by (step t call l) args.names.now args.nets.now) c.part.ensures in
+    record { step = given; whole = rw (reply_next t call order c.step_whole.result _ _ _ _ given) (next-whole t call order c.requires) }

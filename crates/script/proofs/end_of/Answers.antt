@@ -1,28 +1,26 @@
--- `end_of` looks letter by letter: before each turn the line through i ends where the line through the first place does.
-use mathlib.Core.Path.{sym, ◌∙◌}
-use native.Mathlib.Omega.{arith}
-use borrow.Author.Tests.{eq-eqb, ne_eqb}
-use Rattle.script.proofs.Lines.{ends_here, ends_later, ends_past}
+-- The first line feed behind the place, or the end of what is behind it.
+use Rattle.std.proofs.Common.{◌-◌, ◌∙◌, sym, length, drop, arith}
+use lib.ListN.{length-drop, drop_of_length-le}
+use lib.Seq.{take_all}
+use Rattle.lists.specs.Tests.{first_place}
+use Rattle.script.specs.Lines.{ends_line}
+use Rattle.script.proofs.Lines.{place-some, place-none}
 use Rattle.script.proofs.end_of.Goals as goal
 
-pub bounds-text-i : goal.bounds-text-i
-bounds-text-i c = omega arith
+pub returns-then-text-at : goal.returns-then-text-at
+unfolding first_place
+returns-then-text-at c = rw (drop_of_length-le c.args.text.now c.if-text-at.true) (omega arith)
 
-pub returns-then-text-i-eq10 : goal.returns-then-text-i-eq10
-returns-then-text-i-eq10 c =
-    let here = c in
-    sym (ends_here here.args.text.now here.loop-i.i (omega arith) (eq-eqb _ 10 c.if-text-i-eq10.true)) ∙ here.loop-i.invariant
+pub returns-in-Some : goal.returns-in-Some
+returns-in-Some c =
+    let text = c.args.text.now in
+    let behind = drop c.args.at text in
+    let whole = take_all (length text - c.args.at) behind (omega (arith, length-drop c.args.at text)) in
+    omega (arith, place-some ends_line behind c.in-Some.letters (rw whole at (sym c.first_feed.ensures ∙ c.in-Some.is)))
 
-pub overflow_add-i : goal.overflow_add-i
-overflow_add-i c = omega arith
-
-pub loop-i-smaller : goal.loop-i-smaller
-loop-i-smaller c = omega arith
-
-pub loop-i-preserved : goal.loop-i-preserved
-loop-i-preserved c =
-    let here = c in
-    ends_later here.args.text.now here.loop-i.i (omega arith) (ne_eqb _ 10 c.if-text-i-eq10.false) ∙ here.loop-i.invariant
-
-pub returns : goal.returns
-returns c = sym (ends_past c.args.text.now c.loop-i.i (omega arith)) ∙ c.loop-i.invariant
+pub returns-in-None : goal.returns-in-None
+returns-in-None c =
+    let text = c.args.text.now in
+    let behind = drop c.args.at text in
+    let whole = take_all (length text - c.args.at) behind (omega (arith, length-drop c.args.at text)) in
+    omega (arith, place-none ends_line behind (rw whole at (sym c.first_feed.ensures ∙ c.in-None.is)), length-drop c.args.at text)

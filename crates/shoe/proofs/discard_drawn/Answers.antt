@@ -1,39 +1,23 @@
--- `discard_drawn` goes card by card: before each turn the first i cards of the order are in the array of the discards.
-use mathlib.Core.Path.{◌≡◌, refl, ◌∙◌, ap}
-use mathlib.Core.List.{List}
-use Prim.Native.Nat.{ℕ, ◌+◌}
+-- The drawn cards are copied in front of what the discards hold.
+use mathlib.Core.Path.{◌≡◌, refl, subst}
+use mathlib.Core.List.{List, ◌++◌}
+use Prim.Native.Nat.{ℕ, ◌+◌, ◌≤◌}
 use native.Mathlib.Omega.{arith}
-use lib.ListN.{length, take, get_or, set}
-use lib.Seq.{sets}
-use Rattle.table.specs.Shoe.{make_shoe}
-use Rattle.shoe.proofs.Discards.{card-next}
+use lib.ListN.{length, take, drop}
+use lib.Seq.{sets, sets-eq, length-take-le}
 use borrow.Author.Rules.{rules}
 use Rattle.shoe.proofs.discard_drawn.Goals as goal
 
-pub bounds-order-i : goal.bounds-order-i
-bounds-order-i c = omega arith
-
-pub bounds-discards-i : goal.bounds-discards-i
-bounds-discards-i c = omega arith
-
-pub overflow_step-i : goal.overflow_step-i
-overflow_step-i c = omega arith
-
-pub loop-i-smaller : goal.loop-i-smaller
-loop-i-smaller c = omega arith
-
-pub loop-i-preserved : goal.loop-i-preserved
-loop-i-preserved c =
-    let at = c in
-    let sh = at.args.sh in
-    let i = at.loop-i.i in
-    let full : length sh.order ≡ 416 = search rules in
-    let place : i ≡ 0 + i = omega arith in
-    (omega arith, ap (λ (k : ℕ). set at.loop-i.discards k (get_or sh.order i 0)) place ∙ card-next sh.discards 0 sh.order i at.loop-i.discards _ (omega arith) at.loop-i.invariant.1 refl)
+-- cards stored from the first place on stand in front of the others
+stored : (l cards : List ℕ) (n : ℕ) → length cards ≡ n → n ≤ length l → sets l 0 cards ≡ cards ++ drop n l
+stored l cards n e h =
+    let many : 0 + length cards ≡ n = omega arith in
+    subst (λ (k : ℕ). sets l 0 cards ≡ cards ++ drop k l) many (sets-eq cards l 0 (omega arith))
 
 pub returns : goal.returns
 returns c =
-    let at = c in
-    let sh = at.args.sh in
-    let all : at.loop-i.i ≡ sh.drawn = omega arith in
-    ap (λ (l : List ℕ). make_shoe sh.order sh.drawn l sh.drawn sh.begun) (at.loop-i.invariant.1 ∙ ap (λ (k : ℕ). sets sh.discards 0 (take k sh.order)) all)
+    let sh = c.args.sh in
+    let order : length sh.order ≡ 416 = search rules in
+    let discards : length sh.discards ≡ 416 = search rules in
+    let drawn : length (take sh.drawn sh.order) ≡ sh.drawn = length-take-le sh.drawn sh.order (omega arith) in
+    rw (c.copy_from_slice.ensures.after, stored sh.discards (take sh.drawn sh.order) sh.drawn drawn (omega arith)) refl

@@ -1,4 +1,4 @@
--- The walk over the hands of the seats of a table, seat by seat.
+-- The hands of the seats of a table: nine lists, of which each is found at its seat.
 use mathlib.Core.Path.{◌≡◌, sym, ◌∙◌, ap}
 use mathlib.Core.Bool.{Bool, true, false}
 use mathlib.Core.List.{List, []}
@@ -27,16 +27,3 @@ module _ (t : Table) (full : length t.seats ≡ 9) where
   -- some hand waits exactly if the first seat with a waiting hand is one of the nine
   pub waits_below : (i : ℕ) → i ≡ seat_in_turn t → any_waits t ≡ ltb i 9
   waits_below i e = sym (ap (λ (k : ℕ). ltb k 9) e ∙ ap (ltb (seat_in_turn t)) (sym nine_seats_lem) ∙ first_inside (seat_waits t.options (up t)) (seats_hands t))
-
-  module _ (test : List Played → Bool) (i : ℕ) (none : any_of test (take i (seats_hands t)) ≡ false) where
-    -- the seat passes, and is the first
-    pub seat_found : i < 9 → test (hands (seat_at t i)) ≡ true → first_place test (seats_hands t) ≡ i
-    seat_found h passes = first_here test (seats_hands t) i [] (omega (arith, nine_seats_lem)) none (ap test (hands_of_lem t i) ∙ passes)
-
-    -- the seat does not pass either
-    pub seat-passed : i < 9 → test (hands (seat_at t i)) ≡ false → any_of test (take (i + 1) (seats_hands t)) ≡ false
-    seat-passed h fails = rw (add-one, any_take test (seats_hands t) i [] (omega (arith, nine_seats_lem)), none) (ap test (hands_of_lem t i) ∙ fails)
-
-    -- no seat passes
-    pub none_found : i ≡ 9 → first_place test (seats_hands t) ≡ 9
-    none_found all = first-none test (seats_hands t) (rw (take_all i (seats_hands t) (omega (arith, nine_seats_lem))) at none) ∙ nine_seats_lem

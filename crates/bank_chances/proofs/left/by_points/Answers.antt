@@ -31,12 +31,6 @@ overflow_add-counts c =
     let byte : Fits w8 (get_or left i 0) = search rules in
     omega (arith, c.loop-face.invariant.3 c.stand_in-at.result)
 
-pub offset_bounds-counts-at-in-loop-face : goal.offset_bounds-counts-at-in-loop-face
-offset_bounds-counts-at-in-loop-face c = record { fits = omega (arith, c.stand_in-at.ensures) }
-
-pub bounds-counts-at-in-loop-face : goal.bounds-counts-at-in-loop-face
-bounds-counts-at-in-loop-face c = omega (arith, c.stand_in-at.ensures)
-
 pub loop-face-preserved : goal.loop-face-preserved
 loop-face-preserved c =
     let left = c.args.left in

@@ -24,7 +24,7 @@ ways-behind-requires t c =
     let left = c.args.left in
     let ten : length left ≡ 10 = search rules in
     let within = c.requires in
-    (omega arith, record { few = omega (arith, within.few, fewer left c.loop-p.p (omega arith)); most = omega arith; deep = omega arith; enough = omega arith })
+    (omega arith, record { few = rw c.without-rest.ensures (omega (arith, within.few, fewer left c.loop-p.p (omega arith))); most = omega arith; deep = omega arith; enough = omega arith })
 
 pub plus_times-counts-requires : goal.plus_times-counts-requires
 plus_times-counts-requires t c =
@@ -36,7 +36,7 @@ plus_times-counts-requires t c =
     let ten : length left ≡ 10 = search rules in
     let full : length bank.cards ≡ 20 = search rules in
     let must = sym c.must_draw.ensures ∙ c.if-not-must_draw.false in
-    let later = behind-card bank c.with_card.result left c.ways-behind.result.each n k p full must c.with_card.ensures c.ways-behind.ensures in
+    let later = behind-card bank c.with_card.result left c.ways-behind.result.each n k p full must c.with_card.ensures (rw c.without-rest.ensures at c.ways-behind.ensures) in
     room (cards_of bank) left c.loop-p.counts.each c.ways-behind.result.each n k p c.loop-p.invariant later c.requires.most ten c.requires.few (omega arith) (omega arith)
 
 pub loop-p-preserved : goal.loop-p-preserved
@@ -54,7 +54,7 @@ loop-p-preserved t c =
       | then-many-gt0 w ↦
           ap each w.counts-is
           ∙ w.plus_times-counts.ensures
-          ∙ rw (so, behind-card bank w.with_card.result left w.ways-behind.result.each n k p full must w.with_card.ensures w.ways-behind.ensures) (some_more (cards_of bank) left n k p)
+          ∙ rw (so, behind-card bank w.with_card.result left w.ways-behind.result.each n k p full must w.with_card.ensures (rw w.without-rest.ensures at w.ways-behind.ensures)) (some_more (cards_of bank) left n k p)
       | else-many-gt0 w ↦ ap each w.counts-is ∙ so ∙ points-passed (cards_of bank) left n k p (omega arith)
     ]
 

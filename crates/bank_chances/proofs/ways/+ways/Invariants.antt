@@ -8,4 +8,4 @@ abbrev pub decreases-ways : goal.decreases-ways
 decreases-ways l = l.depth
 
 abbrev pub invariant-loop-p : goal.invariant-loop-p
-invariant-loop-p l = l.counts.each ≡ ways_below (cards_of l.bank) l.left l.n (l.depth - 1) l.p
+invariant-loop-p l = l.counts.each ≡ ways_below (cards_of l.bank) l.fn.left l.n (l.depth - 1) l.p

@@ -1,10 +1,6 @@
--- Before each turn the table is whole, and each turn goes on to a later place.
-use Rattle.std.proofs.Common.{length, ◌-◌}
+-- Before each turn the table is whole.
 use Rattle.books.specs.Laws.{Whole}
 use Rattle.bench_file.proofs.replays.each.Given as goal
 
-abbrev pub invariant-loop-at : goal.invariant-loop-at
-invariant-loop-at l = Whole l.t
-
-abbrev pub decreases-loop-at : goal.decreases-loop-at
-decreases-loop-at l = length l.file - l.at
+abbrev pub invariant-loop-handed : goal.invariant-loop-handed
+invariant-loop-handed l = (goal.iterator-loop-handed).can_next l.handed-iterator × (goal.iterator-loop-handed).is_finite l.handed-iterator × Whole l.table

@@ -22,4 +22,4 @@ all_none s side same e =
     }
 
 pub returns : goal.returns
-returns c = all_none c.args.s c.sideless.result c.sideless.ensures
+returns c = all_none c.args.s c.no_sides.result c.no_sides.ensures

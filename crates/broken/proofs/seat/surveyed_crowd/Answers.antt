@@ -1,20 +1,19 @@
 -- A guest who is not sound decides; where each is sound, what they share does.
-use borrow.Author.Tests.{not-true, not-false}
+use mathlib.Core.Path.{refl}
+use mathlib.Core.Bool.{true}
 use Rattle.money.specs.Sums.{seat_sums}
-use Rattle.broken.proofs.seat.Guests.{guest_fails, guests_pass}
+use Rattle.broken.proofs.seat.Guests.{Survey, of_tested, passed, failed, nothing, guest_fails, guests_pass}
 use Rattle.broken.proofs.seat.surveyed_crowd.Goals as goal
 
-pub returns-then-not-guests : goal.returns-then-not-guests
-returns-then-not-guests c =
-    let all = c in
-    let a = all.args in
-    let guests = all.surveyed_guests-guests in
-    guest_fails a.o a.in_round a.up a.i a.s (seat_sums a.o a.s) guests.result guests.ensures (not-true _ c.if-not-guests.true)
+pub returns-in_err-guests : goal.returns-in_err-guests
+returns-in_err-guests c =
+    let a = c.args in
+    rw c.from_residual.ensures (nothing _ _ 3 (guest_fails a.r.options a.r.dealt a.r.up a.i a.s (failed _ _ _ _ c.surveyed_guests.ensures c.in_err-guests.was)))
 
 pub returns : goal.returns
 returns c =
-    let all = c in
-    let a = all.args in
-    let guests = all.surveyed_guests-guests in
-    guests_pass a.o a.in_round a.up a.i a.s (seat_sums a.o a.s) guests.result c.sound_shared-sound.result guests.ensures
-    (not-false _ c.if-not-guests.false) c.sound_shared-sound.ensures
+    let a = c.args in
+    let guests : Survey = record { sound = true; sums = c.in_ok-guests.guests } in
+    rw c.then_some.ensures (of_tested _ _ 3 (record { sound = c.sound_shared.result; sums = c.in_ok-guests.guests })
+    (guests_pass a.r.options a.r.dealt a.r.up a.i a.s (seat_sums a.r.options a.s) guests c.sound_shared.result
+    (passed _ _ _ _ _ c.surveyed_guests.ensures c.in_ok-guests.was) refl c.sound_shared.ensures))

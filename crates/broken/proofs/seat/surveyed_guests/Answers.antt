@@ -1,28 +1,25 @@
 -- The three guests together are the seat's.
-use native.Mathlib.Omega.{arith}
-use Rattle.money.proofs.sums.Pass.{within_more, fits_in_lem}
-use Rattle.broken.proofs.seat.Guests.{survey_fits, three}
+use mathlib.Core.Path.{refl}
+use mathlib.Core.Bool.{true}
+use Rattle.broken.proofs.seat.Guests.{Survey, of_tested, passed, failed, nothing, three, one_fails}
 use Rattle.broken.proofs.seat.surveyed_guests.Goals as goal
 
-pub together-requires : goal.together-requires
-together-requires c =
-    let first = c.surveyed_guest-seated in record { left = survey_fits _ _ 1 27 first.result (omega arith) first.ensures; right = survey_fits _ _ 1 27 c.surveyed_other-one.result (omega arith) c.surveyed_other-one.ensures }
-
-pub together-requires-2 : goal.together-requires-2
-together-requires-2 c =
-    let two = c.together.result.sums in
-    let first = c.surveyed_guest-seated in
-    let second = c.surveyed_other-one in record {
-      left = fits_in_lem 2 27 two (omega arith)
-          (within_more 1 1 first.result.sums second.result.sums two (survey_fits _ _ 1 1 first.result (omega arith) first.ensures) (survey_fits _ _ 1 1 second.result (omega arith) second.ensures) c.together.ensures.sums);
-      right = survey_fits _ _ 1 27 c.surveyed_other-two.result (omega arith) c.surveyed_other-two.ensures;
-    }
+pub returns-in_err-seated : goal.returns-in_err-seated
+returns-in_err-seated c =
+    let a = c.args in
+    rw c.from_residual.ensures (nothing _ _ 3 (one_fails a.r.options a.r.dealt a.r.up a.i a.s (failed _ _ _ _ c.surveyed_guest.ensures c.in_err-seated.was)))
 
 pub returns : goal.returns
 returns c =
     let a = c.args in
-    let first = c.surveyed_guest-seated in
-    let second = c.surveyed_other-one in
-    let third = c.surveyed_other-two in
-    three a.o a.in_round a.up a.i a.s first.result second.result third.result c.together.result c.together-2.result
-    first.ensures second.ensures third.ensures (c.together.ensures.sound, c.together.ensures.sums) (c.together-2.ensures.sound, c.together-2.ensures.sums)
+    let first : Survey = record { sound = true; sums = c.in_ok-seated.seated } in
+    let second : Survey = record { sound = true; sums = c.in_ok-one.one } in
+    let third : Survey = record { sound = true; sums = c.in_ok-two.two } in
+    let both : Survey = record { sound = true; sums = c.plus.result } in
+    let all : Survey = record { sound = true; sums = c.plus-2.result } in
+    of_tested _ _ 3 all
+    (three a.r.options a.r.dealt a.r.up a.i a.s first second third both all
+    (passed _ _ _ _ _ c.surveyed_guest.ensures c.in_ok-seated.was)
+    (passed _ _ _ _ _ c.surveyed_other.ensures c.in_ok-one.was)
+    (passed _ _ _ _ _ c.surveyed_other-2.ensures c.in_ok-two.was)
+    (refl, c.plus.ensures) (refl, c.plus-2.ensures))

@@ -71,31 +71,18 @@ returns-then-shoe c =
 pub returns-then-not-discards_first : goal.returns-then-not-discards_first
 unfolding sound_discards
 returns-then-not-discards_first c =
-    let compared = c in
-    let t = compared.args.t in
-    let both = refused (sound_shoe t && sound_discards t) (simp (sym compared.discards_first.ensures ∙ c.if-not-discards_first.true, and-false)) in
+    let t = c.args.t in
+    let both = refused (sound_shoe t && sound_discards t) (simp (sym c.discards_first.ensures ∙ c.if-not-discards_first.true, and-false)) in
     record { tests = both.0; counters = both.1 }
-
-pub slice_bounds-count_left-end : goal.slice_bounds-count_left-end
-slice_bounds-count_left-end c =
-    let start = c in
-    sym (order-whole (goal.at.slice_bounds-count_left-end start).Start)
 
 pub count_left-requires : goal.count_left-requires
 count_left-requires c =
-    let fewer = c in
-    let drawn = fewer in
-    let fits = drawn in
-    let start = fits in
-    record { none = start.requires; fits = record { array = order-whole (goal.at.count_left-requires start).Start; order = fits.if-all-gt416.false; drawn = drawn.if-all-shoe.false; discarded = fewer.if-shoe.false } }
+    record { none = c.requires; fits = record { array = order-whole (goal.at.count_left-requires c).Start; order = c.if-all-gt416.false; drawn = c.if-all-shoe.false; discarded = c.if-shoe.false } }
 
 pub returns : goal.returns
 returns c =
-    let counted = c in
-    let compared = counted in
-    let start = compared in
-    let t = start.args.t in
+    let t = c.args.t in
     let discards : length t.shoe.discards ≡ 416 = search rules in
     let first : all_below (λ k. eqb (get_or t.shoe.discards k 0) (get_or t.shoe.order k 0)) t.shoe.discarded ≡ true =
-    sym compared.discards_first.ensures ∙ compared.if-not-discards_first.false in
-    let valid : c.order_valid.result ≡ valid_order t.options.decks (table_order t) = c.order_valid.ensures in record { tests = valid ∙ order_decides t counted.count_left.ensures.within first; counters = λ e. record { left = counted.count_left.ensures; valid = sym valid ∙ e; discards = discards_are t.shoe (discards ∙ sym (order-whole (goal.at.returns start).Start)) first } }
+    sym c.discards_first.ensures ∙ c.if-not-discards_first.false in
+    let valid : c.order_valid.result ≡ valid_order t.options.decks (table_order t) = c.order_valid.ensures in record { tests = valid ∙ order_decides t c.count_left.ensures.within first; counters = λ e. record { left = c.count_left.ensures; valid = sym valid ∙ e; discards = discards_are t.shoe (discards ∙ sym (order-whole (goal.at.returns c).Start)) first } }

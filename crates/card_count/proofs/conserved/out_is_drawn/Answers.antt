@@ -38,33 +38,28 @@ in_play t ok bank = counted_join ok.counted bank
 
 pub count_hand-requires : goal.count_hand-requires
 count_hand-requires c =
-    let start = c in
-    let t = start.args.t in
-    let ok = start.requires in
+    let t = c.args.t in
+    let ok = c.requires in
     counted-room 740 20 (room-kept ok.before t.options.decks t.shoe.order t.shoe.drawn t.shoe.discarded 740 ok.valid.left (omega arith)) ok.counted (omega arith)
 
-pub returns-then-many-shoe : goal.returns-then-many-shoe
+pub returns-then-many-t : goal.returns-then-many-t
 unfolding sound_faces
-returns-then-many-shoe c =
-    let counted = c in
-    let start = counted in
-    let t = start.args.t in
-    simp (ne_eqb (length (out_cards t)) t.shoe.drawn (λ e. omega (arith, out_many t start.requires.valid, (in_play t start.requires counted.count_hand.ensures).number)), and-false)
+returns-then-many-t c =
+    let t = c.args.t in
+    simp (ne_eqb (length (out_cards t)) t.shoe.drawn (λ e. omega (arith, out_many t c.requires.valid, (in_play t c.requires c.count_hand.ensures).number)), and-false)
 
 pub returns : goal.returns
 unfolding sound_faces
 returns c =
-    let counted = c in
-    let start = counted in
-    let t = start.args.t in
+    let t = c.args.t in
     let decks = t.options.decks in
-    let ok = start.requires.valid in
+    let ok = c.requires.valid in
     let kept = ok.left in
-    let play = in_play t start.requires counted.count_hand.ensures in
+    let play = in_play t c.requires c.count_hand.ensures in
     let many : length (out_cards t) ≡ t.shoe.drawn = omega (arith, out_many t ok, play.number) in
     rw (eq-eqb (length (out_cards t)) t.shoe.drawn many, and-true)
     (c.each_face.ensures
-    ∙ out_decide decks t.shoe.drawn (order_of decks t.shoe) (left_and_first decks t.shoe.order t.shoe.drawn t.shoe.discarded) start.requires.before kept.whole kept.counters ok.valid (out_cards t) many kept.within.drawn
+    ∙ out_decide decks t.shoe.drawn (order_of decks t.shoe) (left_and_first decks t.shoe.order t.shoe.drawn t.shoe.discarded) c.requires.before kept.whole kept.counters ok.valid (out_cards t) many kept.within.drawn
     (hand_cards t ++ bank_cards t) _
     (λ b. count-first b (left_of decks t.shoe) (take t.shoe.discarded t.shoe.order) (hand_cards t ++ bank_cards t) (table_discards t) ok.discards)
     play.counters)

@@ -15,20 +15,18 @@ rest xs from = take_all (length xs - from) (drop from xs) (omega (arith, length-
 
 pub count_each-requires : goal.count_each-requires
 count_each-requires c =
-    let at = c in
-    let args = at.args in
+    let args = c.args in
     let done = 4 * (length args.cards.now / 4) in
-    let have : Have args.of.now args.cards.now done at.count_fours.new.of = record { first = at.count_fours.ensures } in
-    have_room have at.requires (rw (rest args.cards.now done, length-drop) (omega arith))
+    let have : Have args.of.now args.cards.now done c.count_fours.new.of = record { first = c.count_fours.ensures } in
+    have_room have c.requires (rw (rest args.cards.now done, length-drop) (omega arith))
 
 pub returns : goal.returns
 returns c =
-    let at = c in
-    let of = at.args.of.now in
-    let cards = at.args.cards.now in
+    let of = c.args.of.now in
+    let cards = c.args.cards.now in
     let done = 4 * (length cards / 4) in
     c.count_each.ensures
-    ∙ ap (λ (first : List ℕ). counted_all first (take (length cards - done) (drop done cards))) at.count_fours.ensures
+    ∙ ap (λ (first : List ℕ). counted_all first (take (length cards - done) (drop done cards))) c.count_fours.ensures
     ∙ ap (counted_all (counted_all of (take done cards))) (rest cards done)
     ∙ sym (counted-append of (take done cards) (drop done cards))
     ∙ ap (counted_all of) (take-append-drop done cards)

@@ -18,8 +18,7 @@ bounds-cards-i c = omega arith
 
 pub count_one-requires : goal.count_one-requires
 count_one-requires c =
-    let at = c in
-    have_room at.loop-k.invariant.1 at.requires.0 (omega arith)
+    have_room c.loop-k.invariant.1 c.requires.0 (omega arith)
 
 pub overflow_add-i : goal.overflow_add-i
 overflow_add-i c = omega arith
@@ -29,9 +28,8 @@ bounds-cards-i-in-loop-k c = omega arith
 
 pub count_one-requires-in-loop-k : goal.count_one-requires-in-loop-k
 count_one-requires-in-loop-k c =
-    let at = c in
-    let one = have_next (4 * at.loop-k.k + 1) _ at.loop-k.invariant.1 c.count_one.ensures (omega arith) (omega arith) in
-    have_room one at.requires.0 (omega arith)
+    let one = have_next (4 * c.loop-k.k + 1) _ c.loop-k.invariant.1 c.count_one.ensures (omega arith) (omega arith) in
+    have_room one c.requires.0 (omega arith)
 
 pub overflow_add-i-in-loop-k : goal.overflow_add-i-in-loop-k
 overflow_add-i-in-loop-k c = omega arith
@@ -41,10 +39,9 @@ bounds-cards-i-in-loop-k-2 c = omega arith
 
 pub count_one-requires-in-loop-k-2 : goal.count_one-requires-in-loop-k-2
 count_one-requires-in-loop-k-2 c =
-    let at = c in
-    let one = have_next (4 * at.loop-k.k + 1) _ at.loop-k.invariant.1 c.count_one.ensures (omega arith) (omega arith) in
-    let two = have_next (4 * at.loop-k.k + 2) _ one c.count_one-in-loop-k.ensures (omega arith) (omega arith) in
-    have_room two at.requires.0 (omega arith)
+    let one = have_next (4 * c.loop-k.k + 1) _ c.loop-k.invariant.1 c.count_one.ensures (omega arith) (omega arith) in
+    let two = have_next (4 * c.loop-k.k + 2) _ one c.count_one-in-loop-k.ensures (omega arith) (omega arith) in
+    have_room two c.requires.0 (omega arith)
 
 pub overflow_add-i-in-loop-k-2 : goal.overflow_add-i-in-loop-k-2
 overflow_add-i-in-loop-k-2 c = omega arith
@@ -54,11 +51,10 @@ bounds-cards-i-in-loop-k-3 c = omega arith
 
 pub count_one-requires-in-loop-k-3 : goal.count_one-requires-in-loop-k-3
 count_one-requires-in-loop-k-3 c =
-    let at = c in
-    let one = have_next (4 * at.loop-k.k + 1) _ at.loop-k.invariant.1 c.count_one.ensures (omega arith) (omega arith) in
-    let two = have_next (4 * at.loop-k.k + 2) _ one c.count_one-in-loop-k.ensures (omega arith) (omega arith) in
-    let three = have_next (4 * at.loop-k.k + 3) _ two c.count_one-in-loop-k-2.ensures (omega arith) (omega arith) in
-    have_room three at.requires.0 (omega arith)
+    let one = have_next (4 * c.loop-k.k + 1) _ c.loop-k.invariant.1 c.count_one.ensures (omega arith) (omega arith) in
+    let two = have_next (4 * c.loop-k.k + 2) _ one c.count_one-in-loop-k.ensures (omega arith) (omega arith) in
+    let three = have_next (4 * c.loop-k.k + 3) _ two c.count_one-in-loop-k-2.ensures (omega arith) (omega arith) in
+    have_room three c.requires.0 (omega arith)
 
 pub overflow_step-k : goal.overflow_step-k
 overflow_step-k c = omega arith
@@ -68,15 +64,13 @@ loop-k-smaller c = omega arith
 
 pub loop-k-preserved : goal.loop-k-preserved
 loop-k-preserved c =
-    let at = c in
-    let one = have_next (4 * at.loop-k.k + 1) _ at.loop-k.invariant.1 c.count_one.ensures (omega arith) (omega arith) in
-    let two = have_next (4 * at.loop-k.k + 2) _ one c.count_one-in-loop-k.ensures (omega arith) (omega arith) in
-    let three = have_next (4 * at.loop-k.k + 3) _ two c.count_one-in-loop-k-2.ensures (omega arith) (omega arith) in
-    let four = have_next (4 * (at.loop-k.k + 1)) _ three c.count_one-in-loop-k-3.ensures (omega arith) (omega arith) in
+    let one = have_next (4 * c.loop-k.k + 1) _ c.loop-k.invariant.1 c.count_one.ensures (omega arith) (omega arith) in
+    let two = have_next (4 * c.loop-k.k + 2) _ one c.count_one-in-loop-k.ensures (omega arith) (omega arith) in
+    let three = have_next (4 * c.loop-k.k + 3) _ two c.count_one-in-loop-k-2.ensures (omega arith) (omega arith) in
+    let four = have_next (4 * (c.loop-k.k + 1)) _ three c.count_one-in-loop-k-3.ensures (omega arith) (omega arith) in
     (omega arith, four)
 
 pub returns : goal.returns
 returns c =
-    let at = c in
-    let all : at.loop-k.k ≡ at.args.fours = omega arith in
-    at.loop-k.invariant.1.first ∙ ap (λ (k : ℕ). counted_all at.args.of.now (take (4 * k) at.args.cards.now)) all
+    let all : c.loop-k.k ≡ c.args.fours = omega arith in
+    c.loop-k.invariant.1.first ∙ ap (λ (k : ℕ). counted_all c.args.of.now (take (4 * k) c.args.cards.now)) all

@@ -1,37 +1,16 @@
--- `each_face` looks face by face: before each turn it holds what those passed decide.
-use mathlib.Core.Path.{◌≡◌, sym, ap, ◌∙◌}
-use mathlib.Core.Bool.{Bool, ◌&&◌}
-use native.Mathlib.Omega.{arith}
-use lib.Dec.{eqb}
-use lib.ListN.{get_or}
-use Rattle.lists.specs.Below.{all_below}
-use Rattle.lists.proofs.Below.{below_one_more}
-use borrow.Author.Rules.{rules}
+-- The first 52 counters are asked one by one.
+use Rattle.std.proofs.Common.{◌≡◌, Bool, true, ◌&&◌, ℕ, ◌∙◌, eqb, take, length, rules, tests, arith}
+use Rattle.std.specs.List.{fold}
+use Rattle.std.proofs.lemmas.Iterator.{YieldsList-from_slice}
+use Rattle.std.proofs.lemmas.Iterator.Consumers.{fold_from_yields_List}
+use Rattle.lists.proofs.Chains.{list_all-below, fold-all}
 use Rattle.card_count.proofs.counters.each_face.Goals as goal
-
-pub loop-face-init : goal.loop-face-init
-unfolding all_below
-loop-face-init c = search rules
-
-pub offset_bounds-of-face : goal.offset_bounds-of-face
-offset_bounds-of-face c = omega arith
-
-pub bounds-of-face : goal.bounds-of-face
-bounds-of-face c = omega arith
-
-pub overflow_step-face : goal.overflow_step-face
-overflow_step-face c = omega arith
-
-pub loop-face-smaller : goal.loop-face-smaller
-loop-face-smaller c = omega arith
-
-pub loop-face-preserved : goal.loop-face-preserved
-loop-face-preserved c =
-    let at = c in
-    let args = at.args in
-    (omega arith, ap (λ (b : Bool). b && eqb (get_or args.of.now at.loop-face.face 0) args.times) at.loop-face.invariant.1 ∙ sym (below_one_more _ _))
 
 pub returns : goal.returns
 returns c =
-    let face : c.loop-face.face ≡ 52 = omega arith in
-    c.loop-face.invariant.1 ∙ ap (all_below _) face
+    let of = c.args.of.now in
+    let times = c.args.times in
+    let full : length of ≡ 256 = search rules in
+    let joined : c.fold.result ≡ fold (λ (all : Bool) (x : ℕ). all && eqb x times) true (take 52 of)
+    = fold_from_yields_List _ (λ (all : Bool) (x : ℕ). all && eqb x times) true c.fold.result c.fold.ensures.ran (YieldsList-from_slice (take 52 of) cc) (λ a x b q k. search (rules, tests)) in
+    joined ∙ fold-all (λ x. eqb x times) true (take 52 of) ∙ list_all-below (λ x. eqb x times) 52 of (omega arith)

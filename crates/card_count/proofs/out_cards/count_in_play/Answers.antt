@@ -8,10 +8,8 @@ count_seats-hands-requires c = room-less 720 c.requires (omega arith)
 
 pub count_hand-requires : goal.count_hand-requires
 count_hand-requires c =
-    let seats = c in
-    counted-room 740 20 seats.requires seats.count_seats-hands.ensures (omega arith)
+    counted-room 740 20 c.requires c.count_seats-hands.ensures (omega arith)
 
 pub returns : goal.returns
 returns c =
-    let seats = c in
-    counted_join seats.count_seats-hands.ensures c.count_hand.ensures
+    counted_join c.count_seats-hands.ensures c.count_hand.ensures

@@ -13,8 +13,7 @@ use Rattle.card_count.proofs.valid_order.valid_order.Goals as goal
 pub returns-then-order-decks : goal.returns-then-order-decks
 unfolding valid_order
 returns-then-order-decks c =
-    let start = c in
-    rw (ne_eqb (length start.args.order.now) (52 * start.args.decks) (λ e. omega arith))
+    rw (ne_eqb (length c.args.order.now) (52 * c.args.decks) (λ e. omega arith))
 
 pub count-requires : goal.count-requires
 unfolding no_counts
@@ -23,9 +22,8 @@ count-requires c = room-zeros (length c.args.order.now) (omega arith)
 pub returns : goal.returns
 unfolding no_counts
 returns c =
-    let start = c in
-    let right : length start.args.order.now ≡ 52 * start.args.decks = omega arith in
+    let right : length c.args.order.now ≡ 52 * c.args.decks = omega arith in
     c.each_face.ensures
-    ∙ faces-decide start.args.decks start.args.order.now start.args.order.now _ right
+    ∙ faces-decide c.args.decks c.args.order.now c.args.order.now _ right
     c.count.ensures
     (λ b. refl)

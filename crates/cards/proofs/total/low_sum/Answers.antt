@@ -1,37 +1,22 @@
--- `low_sum` adds the points card by card: before each turn the sum is that of the first i cards of the array.
-use mathlib.Core.Path.{◌≡◌, ap, ◌∙◌}
-use Prim.Native.Nat.{◌<◌}
-use native.Mathlib.Numerals.{add-one}
-use native.Mathlib.Omega.{arith}
-use lib.ListN.{length, get_or}
-use Rattle.lists.specs.Sum.{sum_of}
-use Rattle.lists.proofs.Sums.{sum-take}
-use Rattle.lists.proofs.Takes.{take_clamped}
+-- `low_sum` adds the points of the cards, of which none has more than ten: twenty cards come to 200 at most.
+use Rattle.std.proofs.Common.{rules, ◌≡◌, ◌<◌, ◌*◌, ◌≤◌, length, length-take, arith}
+use Rattle.std.specs.List.{sum_by}
+use Rattle.std.proofs.iter.runs.Sources.{sums}
+use Rattle.lists.proofs.Sums.{sum-most}
+use Rattle.lists.proofs.Chains.{sum_of-sum_by}
 use Rattle.cards.specs.Points.{points_of}
+use Rattle.cards.specs.Hand.{cards_of}
 use Rattle.cards.proofs.card.PointsLaws.{points-most}
-use Rattle.cards.specs.Total.{low_sum}
-use borrow.Author.Rules.{rules}
 use Rattle.cards.proofs.total.low_sum.Goals as goal
 
-pub loop-i-init : goal.loop-i-init
-unfolding sum_of
-loop-i-init c = search rules
-
-pub overflow_add-sum : goal.overflow_add-sum
-overflow_add-sum c =
-    let cards = c.args.h.cards in
-    omega (arith, points-most (get_or cards c.loop-i.i 0))
-
-pub loop-i-preserved : goal.loop-i-preserved
-loop-i-preserved c =
-    let cards = c.args.h.cards in
-    let i = c.loop-i.i in
-    let full : length cards ≡ 20 = search rules in
-    let below : i < length cards = omega arith in
-    (omega arith, rw (add-one, sum-take points_of cards i 0) (omega arith), omega (arith, points-most (get_or cards i 0)))
-
-pub returns : goal.returns
-returns c =
+pub sum-requires-clause-fits : goal.sum-requires-clause-fits
+sum-requires-clause-fits c =
     let h = c.args.h in
     let full : length h.cards ≡ 20 = search rules in
-    c.loop-i.invariant.1 ∙ ap low_sum (take_clamped h.cards h.count c.loop-i.i (omega arith))
+    let few : length (cards_of h) ≤ 20 = omega (arith, length-take h.count h.cards) in
+    let most : sum_by points_of (cards_of h) ≤ 10 * length (cards_of h) = rw (← sum_of-sum_by) (sum-most points_of 10 points-most (cards_of h)) in
+    let fits : sum_by points_of (cards_of h) < 256 = omega arith in
+    search (rules, sums, fits)
+
+pub returns : goal.returns
+returns c = rw sum_of-sum_by (search (rules, sums))

@@ -1,46 +1,32 @@
--- `hands_back` adds hand by hand: before each turn the sum is that of the first hands, and for each hand at most four times a stake of 32 bits goes
--- back.
-use mathlib.Core.Path.{◌≡◌, ◌∙◌, ap}
-use native.Mathlib.Omega.{arith}
-use lib.ListN.{length, get_or}
-use Rattle.lists.specs.Sum.{sum_of}
-use Rattle.rules.specs.SeatHand.{played_of}
-use Rattle.rules.proofs.seat_hand.Places.{none}
-use Rattle.payment.specs.declared.pay.Pay.{Pay}
+-- `hands_back` adds hand by hand; for each hand at most four times a stake of 32 bits goes back.
+use Rattle.std.proofs.Common.{◌≡◌, ◌<◌, ℕ, ◌*◌, length, take, rules, arith}
+use Rattle.std.specs.List.{sum_by}
+use Rattle.std.proofs.iter.runs.Sources.{sums}
+use Rattle.options.specs.declared.Options.{Options}
+use Rattle.rules.specs.declared.seat_hand.SeatHand.{SeatHand}
+use Rattle.rules.specs.SeatHand.{Played, played_of}
+use Rattle.payment.specs.declared.bank.Score.{Score}
 use Rattle.payment.specs.HandPay.{hand_pay}
-use Rattle.money.proofs.seat_money.Hands.{next-hand, every_hand}
+use Rattle.money.proofs.seat_money.Hands.{hands-added, added_most}
 use Rattle.close.proofs.paying.Back.{hand-most}
-use borrow.Author.Rules.{rules}
 use Rattle.close.proofs.paying.hands_back.Goals as goal
 
-pub loop-place-init : goal.loop-place-init
-unfolding sum_of
-loop-place-init c = search rules
+-- what goes back for a hand
+abbrev back : Options → Score → ℕ → Played → ℕ
+back o bank stake h = (hand_pay o bank stake h).back
 
-pub overflow_add-all : goal.overflow_add-all
-overflow_add-all c =
-    let at = c in
-    let start = at in
-    let a = start.args in
-    let h = played_of (get_or a.hands.places at.loop-place.place none) in
-    let paid : c.hand_pay-pay.result.back ≡ (hand_pay a.o a.bank a.stake h).back = ap (λ (p : Pay). p.back) c.hand_pay-pay.ensures in
-    omega (arith, hand-most a.o a.bank a.stake h)
-
-pub loop-place-preserved : goal.loop-place-preserved
-loop-place-preserved c =
-    let at = c in
-    let start = at in
-    let a = start.args in
-    let h = played_of (get_or a.hands.places at.loop-place.place none) in
-    let paid : c.hand_pay-pay.result.back ≡ (hand_pay a.o a.bank a.stake h).back = ap (λ (p : Pay). p.back) c.hand_pay-pay.ensures in
+pub sum-requires-clause-fits : goal.sum-requires-clause-fits
+sum-requires-clause-fits c =
+    let a = c.args in
     let full : length a.hands.places ≡ 4 = search rules in
-    let most = hand-most a.o a.bank a.stake h in
-    (omega arith, rw (next-hand (λ x. (hand_pay a.o a.bank a.stake x).back) a.hands full at.loop-place.place (omega arith)) (omega arith), omega arith)
+    let most = added_most (back a.o a.bank a.stake) a.hands full (4 * a.stake) (hand-most a.o a.bank a.stake) in
+    let fits : sum_by (λ (h : SeatHand). back a.o a.bank a.stake (played_of h)) (take a.hands.many a.hands.places) < 18446744073709551616 = omega (arith, most) in
+    search (rules, sums, fits)
 
 pub returns : goal.returns
 returns c =
-    let at = c in
-    let start = at in
-    let a = start.args in
+    let a = c.args in
     let full : length a.hands.places ≡ 4 = search rules in
-    record { same = at.loop-place.invariant.1 ∙ every_hand (λ x. (hand_pay a.o a.bank a.stake x).back) a.hands full at.loop-place.place (omega arith); small = omega arith }
+    let most = added_most (back a.o a.bank a.stake) a.hands full (4 * a.stake) (hand-most a.o a.bank a.stake) in
+    let sum : c.sum.result ≡ sum_by (λ (h : SeatHand). back a.o a.bank a.stake (played_of h)) (take a.hands.many a.hands.places) = search (rules, sums) in
+    record { same = rw hands-added sum; small = omega (arith, sum, most) }

@@ -9,44 +9,26 @@ use borrow.Author.Rules.{rules}
 use Rattle.close.proofs.seats.ended_seats.Goals as goal
 
 pub loop-i-init : goal.loop-i-init
-loop-i-init c = let a = c.args in (omega arith, stored_none (ended_seat a.t.options a.ending) a.t)
-
-pub offset_bounds-t-i : goal.offset_bounds-t-i
-offset_bounds-t-i c = omega arith
-
-pub bounds-t-i : goal.bounds-t-i
-bounds-t-i c = omega arith
+loop-i-init c = stored_none (ended_seat c.args.t.options c.args.ending) c.args.t
 
 pub ended_seat-requires : goal.ended_seat-requires
 ended_seat-requires c =
-    let at = c in
-    let start = at in
-    let t = start.args.t in
+    let t = c.args.t in
     let full : length t.seats ≡ 9 = search rules in
-    endable t start.requires full at.loop-i.i (omega arith)
+    endable t c.requires full c.loop-i.i (omega arith)
 
 pub offset_bounds-next-i : goal.offset_bounds-next-i
 offset_bounds-next-i c = omega arith
 
-pub overflow_step-i : goal.overflow_step-i
-overflow_step-i c = omega arith
-
-pub loop-i-smaller : goal.loop-i-smaller
-loop-i-smaller c = omega arith
-
 pub loop-i-preserved : goal.loop-i-preserved
 loop-i-preserved c =
-    let at = c in
-    let start = at in
-    let t = start.args.t in
-    let i = at.loop-i.i in
+    let t = c.args.t in
+    let i = c.loop-i.i in
     let full : length t.seats ≡ 9 = search rules in
-    (omega arith, ap (with_seat at.loop-i.next i) c.ended_seat.ensures ∙ stored_next (ended_seat t.options start.args.ending) t at.loop-i.next i (omega arith) at.loop-i.invariant.1)
+    ap (with_seat c.loop-i.next i) c.ended_seat.ensures ∙ stored_next (ended_seat t.options c.args.ending) t c.loop-i.next i (omega arith) c.loop-i.invariant
 
 pub returns : goal.returns
 returns c =
-    let at = c in
-    let start = at in
-    let t = start.args.t in
+    let t = c.args.t in
     let full : length t.seats ≡ 9 = search rules in
-    at.loop-i.invariant.1 ∙ stored_all (ended_seat t.options start.args.ending) t at.loop-i.i (omega arith)
+    c.loop-i.invariant ∙ stored_all (ended_seat t.options c.args.ending) t c.loop-i.i (omega arith)

@@ -21,16 +21,9 @@ pub loop-i-init : goal.loop-i-init
 unfolding sum_of
 loop-i-init c = search rules
 
-pub offset_bounds-t-i : goal.offset_bounds-t-i
-offset_bounds-t-i c = omega arith
-
-pub bounds-t-i : goal.bounds-t-i
-bounds-t-i c = omega arith
-
 pub slice_bounds-card_ahead-end : goal.slice_bounds-card_ahead-end
 slice_bounds-card_ahead-end c =
-    let start = c in
-    let full : length start.args.t.shoe.order ≡ 416 = search rules in
+    let full : length c.args.t.shoe.order ≡ 416 = search rules in
     sym full
 
 pub offset_bounds-next-i : goal.offset_bounds-next-i
@@ -38,29 +31,19 @@ offset_bounds-next-i c = omega arith
 
 pub overflow_add-n : goal.overflow_add-n
 overflow_add-n c =
-    let at = c in
-    omega (arith, one-most (seat_at at.args.t at.loop-i.i))
-
-pub overflow_step-i : goal.overflow_step-i
-overflow_step-i c = omega arith
-
-pub loop-i-smaller : goal.loop-i-smaller
-loop-i-smaller c = omega arith
+    let full : length c.args.t.seats ≡ 9 = search rules in
+    omega (arith, one-most (seat_at c.args.t c.loop-i.i))
 
 pub loop-i-preserved : goal.loop-i-preserved
 loop-i-preserved c =
-    let card = c in
-    let here = card in
-    let start = here in
-    let a = start.args in
+    let a = c.args in
     let t = a.t in
-    let i = here.loop-i.i in
-    let n = here.loop-i.n in
+    let i = c.loop-i.i in
+    let n = c.loop-i.n in
     let full : length t.seats ≡ 9 = search rules in
     let x : c.served.result ≡ serve a.first (seat_at t i) (get_or t.shoe.order (t.shoe.drawn + n) 0)
-    = c.served.ensures ∙ ap (serve a.first (seat_at t i)) card.card_ahead.ensures in (
-      omega arith,
-      ap₂ (λ (u : Table) (s : Seat). with_seat u i s) here.loop-i.invariant.1 x
+    = c.served.ensures ∙ ap (serve a.first (seat_at t i)) c.card_ahead.ensures in (
+      ap₂ (λ (u : Table) (s : Seat). with_seat u i s) c.loop-i.invariant.0 x
           ∙ ap (with_seats t) (serve-next (give a.first) t.shoe.order (t.shoe.drawn + a.at) t.seats i (t.shoe.drawn + n) (omega arith) (omega arith)),
       omega (arith, staked-next t.seats i (omega arith)),
       omega (arith, one-most (seat_at t i)),
@@ -68,8 +51,7 @@ loop-i-preserved c =
 
 pub returns : goal.returns
 returns c =
-    let start = c in
-    let a = start.args in
+    let a = c.args in
     let t = a.t in
     let full : length t.seats ≡ 9 = search rules in
-    c.loop-i.invariant.1 ∙ ap (with_seats t) (serve-all (give a.first) t.shoe.order (t.shoe.drawn + a.at) t.seats c.loop-i.i (omega arith))
+    c.loop-i.invariant.0 ∙ ap (with_seats t) (serve-all (give a.first) t.shoe.order (t.shoe.drawn + a.at) t.seats c.loop-i.i (omega arith))

@@ -1,4 +1,4 @@
--- `staked_seats` counts seat by seat: before each turn the count is that of the first i seats.
+-- `staked_seats` counts seat by seat: before each turn the count is that of the seats before it.
 use mathlib.Core.Path.{◌≡◌, ◌∙◌, ap}
 use native.Mathlib.Omega.{arith}
 use lib.ListN.{length}
@@ -10,34 +10,24 @@ use Rattle.deal.proofs.pass.Next.{one-most, staked-next}
 use borrow.Author.Rules.{rules}
 use Rattle.deal.proofs.pass.staked_seats.Goals as goal
 
-pub loop-i-init : goal.loop-i-init
+pub loop-s-init : goal.loop-s-init
 unfolding sum_of
-loop-i-init c = search rules
-
-pub offset_bounds-t-i : goal.offset_bounds-t-i
-offset_bounds-t-i c = omega arith
-
-pub bounds-t-i : goal.bounds-t-i
-bounds-t-i c = omega arith
+loop-s-init c = search rules
 
 pub overflow_add-n : goal.overflow_add-n
-overflow_add-n c = let at = c in omega (arith, one-most (seat_at at.args.t at.loop-i.i))
+overflow_add-n c =
+    let full : length c.args.t.seats ≡ 9 = search rules in
+    omega (arith, one-most (seat_at c.args.t c.loop-s.s-index))
 
-pub overflow_step-i : goal.overflow_step-i
-overflow_step-i c = omega arith
-
-pub loop-i-smaller : goal.loop-i-smaller
-loop-i-smaller c = omega arith
-
-pub loop-i-preserved : goal.loop-i-preserved
-loop-i-preserved c =
-    let at = c in
-    let t = at.args.t in
+pub loop-s-preserved : goal.loop-s-preserved
+loop-s-preserved c =
+    let t = c.args.t in
+    let i = c.loop-s.s-index in
     let full : length t.seats ≡ 9 = search rules in
-    (omega arith, omega (arith, staked-next t.seats at.loop-i.i (omega arith)), omega (arith, one-most (seat_at t at.loop-i.i)))
+    (omega (arith, staked-next t.seats i (omega arith)), omega (arith, one-most (seat_at t i)))
 
 pub returns : goal.returns
 returns c =
     let t = c.args.t in
     let full : length t.seats ≡ 9 = search rules in
-    record { same = c.loop-i.invariant.1 ∙ ap staked_seats (take_all c.loop-i.i t.seats (omega arith)); few = omega arith }
+    record { same = c.loop-s.invariant.0 ∙ ap staked_seats (take_all c.loop-s.s-index t.seats (omega arith)); few = omega arith }

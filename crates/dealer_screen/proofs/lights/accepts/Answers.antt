@@ -7,4 +7,4 @@ use Rattle.dealer_screen.proofs.lights.accepts.Goals as goal
 
 pub returns : goal.returns
 unfolding number
-returns c = ap (λ (n : ℕ). eqb n 0) (ap (λ g. g.number) c.step_checked-r.ensures)
+returns c = ap (λ (n : ℕ). eqb n 0) (ap (λ g. g.number) c.step_whole-r.ensures)

@@ -15,5 +15,5 @@ alike l = record { guests = l ∷ l ∷ l ∷ [] }
 pub returns : goal.returns
 returns c =
     let t = c.args.t in
-    let dark-seat : (seat : ℕ) → alike c.dark-none.result ≡ seat_lights t seat = λ seat. ap alike c.dark-none.ensures ∙ broken-seat t seat c.requires in
+    let dark-seat : (seat : ℕ) → alike c.dark.result ≡ seat_lights t seat = λ seat. ap alike c.dark.ensures ∙ broken-seat t seat c.requires in
     λ i. dark-seat 0 i ∷ dark-seat 1 i ∷ dark-seat 2 i ∷ dark-seat 3 i ∷ dark-seat 4 i ∷ dark-seat 5 i ∷ dark-seat 6 i ∷ dark-seat 7 i ∷ dark-seat 8 i ∷ []

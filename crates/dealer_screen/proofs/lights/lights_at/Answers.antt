@@ -1,20 +1,22 @@
 -- Each field is the answer to its call.
 use mathlib.Core.Path.{◌∙◌, ap}
 use Prim.Native.Nat.{ℕ}
-use Rattle.call.specs.declared.Call.TheVariants.{Insure}
+use Rattle.table.specs.declared.Table.{Table}
+use Rattle.call.specs.declared.Call.TheVariants.{Insure, Stake}
 use Rattle.dealer_screen.specs.Lights.{accepts as accepts_by, lights_at}
 use Rattle.dealer_screen.proofs.lights.lights_at.Goals as goal
 
 pub returns : goal.returns
 unfolding lights_at
 returns c =
-    let asked = c in
-    let a = asked.args in
-    let insured = asked.accepts-4.ensures ∙ ap (λ (n : ℕ). accepts_by a.t (Insure a.at n)) asked.smallest_insurance.ensures in
+    let t = c.args.t.now in
+    let at = c.args.at in
+    let insured = c.accepts-4.ensures ∙ ap (λ (n : ℕ). accepts_by t (Insure at n)) c.smallest_insurance.ensures in
+    let staked = c.accepts-3.ensures ∙ ap (λ (x : Table). accepts_by t (Stake at x.options.smallest)) c.table.ensures.same in
     λ i. record {
       buy = c.accepts.ensures i;
       cash = c.accepts-2.ensures i;
-      stake = c.accepts-3.ensures i;
+      stake = staked i;
       insure = insured i;
       stand = c.accepts-5.ensures i;
       draw = c.accepts-6.ensures i;

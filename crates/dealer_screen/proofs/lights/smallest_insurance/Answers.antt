@@ -8,6 +8,4 @@ use Rattle.dealer_screen.proofs.lights.smallest_insurance.Goals as goal
 
 pub returns : goal.returns
 returns c =
-    let taken = c in
-    let a = taken.args in
-    ap (λ (m : Money). m.stake / 2) (taken.guest_money-money.ensures ∙ ap (λ (s : Seat). (guest_at s a.at.position).money) taken.seat_at.ensures)
+    ap (λ (m : Money). m.stake / 2) (c.guest_money-money.ensures ∙ ap (λ (s : Seat). (guest_at s c.args.at.position).money) c.seat.ensures)

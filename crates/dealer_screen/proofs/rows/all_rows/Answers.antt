@@ -16,6 +16,6 @@ table_rows-requires c = omega (arith, ap (λ (r : Rows). r.count) c.no_rows.ensu
 
 pub returns : goal.returns
 returns c =
-    let waiting = c in
-    let none = waiting in
-    all_gathered none.args.t none.requires none.no_rows.result waiting.table_rows-waiting.result c.table_rows.result none.no_rows.ensures waiting.table_rows-waiting.ensures.same c.table_rows.ensures.same
+    let same = c.table-t.ensures.same in
+    all_gathered c.args.t.now c.table-t.ensures.whole c.no_rows.result c.table_rows-waiting.result c.table_rows.result c.no_rows.ensures
+    (rw same at c.table_rows-waiting.ensures.same) (rw same at c.table_rows.ensures.same)

@@ -12,4 +12,4 @@ row_with seat place hand total = record { seat = seat; place = place; hand = han
 pub returns : goal.returns
 returns c =
     let a = c.args in
-    ap (λ (n : ℕ). row_with a.seat a.place a.h.hand n) (ap (λ (x : HandScore). x.total) c.hand_score-score.ensures)
+    ap (λ (n : ℕ). row_with a.seat a.place a.h.hand n) (ap (λ (x : HandScore). x.total) c.hand_score.ensures)

@@ -14,29 +14,23 @@ use Rattle.dealer_screen.proofs.rows.table_rows.Goals as goal
 
 pub loop-i-init : goal.loop-i-init
 unfolding with_rows rows_from
-loop-i-init c = (omega arith, refl, omega arith)
+loop-i-init c = (refl, omega arith)
 
 pub loop-i-preserved : goal.loop-i-preserved
 loop-i-preserved c =
-    let at = c in
-    let start = at in
-    let a = start.args in
-    let card = at.up-card.result in
+    let a = c.args in
+    let card = c.up-card.result in
     let full : length a.t.seats ≡ 9 = search rules in (
-      omega arith,
-      c.seat_rows-next.ensures.same ∙ next-seat a.waiting a.t.options card a.t.seats a.rows at.loop-i.i at.loop-i.next (omega arith) at.loop-i.invariant.1,
+      c.seat_rows-next.ensures.same ∙ next-seat a.waiting a.t.options card a.t.seats a.rows c.loop-i.i c.loop-i.next (omega arith) c.loop-i.invariant.0,
       omega (arith, c.seat_rows-next.ensures.few),
     )
 
 pub returns : goal.returns
 returns c =
-    let at = c in
-    let start = at in
-    let a = start.args in
-    let told = at.up-card in
+    let a = c.args in
     let full : length a.t.seats ≡ 9 = search rules in record {
-      same = at.loop-i.invariant.1
-          ∙ ap (λ (ss : List Seat). with_rows a.rows (rows_from a.waiting a.t.options told.result 0 ss)) (take_all at.loop-i.i a.t.seats (omega arith))
-          ∙ ap (λ (card : ℕ). with_rows a.rows (rows_from a.waiting a.t.options card 0 a.t.seats)) told.ensures;
+      same = c.loop-i.invariant.0
+          ∙ ap (λ (ss : List Seat). with_rows a.rows (rows_from a.waiting a.t.options c.up-card.result 0 ss)) (take_all c.loop-i.i a.t.seats (omega arith))
+          ∙ ap (λ (card : ℕ). with_rows a.rows (rows_from a.waiting a.t.options card 0 a.t.seats)) c.up-card.ensures;
       few = omega arith;
     }

@@ -1,17 +1,17 @@
--- The options and the up card are the table's.
-use mathlib.Core.Path.{◌∙◌, ap}
-use Prim.Native.Nat.{ℕ}
-use Rattle.rules.specs.Turn.{seat_waits}
-use Rattle.table.specs.Seat.{hands}
-use Rattle.decisions.specs.Aids.EndedHand.{with_ended_hand}
+-- The hand is the one whose turn it is, and it goes back to its place.
+use mathlib.Core.Path.{◌≡◌, ◌∙◌}
+use Rattle.answer.proofs.moved.Laws.{seat_moves}
+use Rattle.decisions_spec.specs.Turn.{end_effect}
 use Rattle.decisions.proofs.end.ended.Goals as goal
 
-pub with_ended_hand-requires : goal.with_ended_hand-requires
-with_ended_hand-requires c =
-    let start = c in
-    ap (λ (k : ℕ). seat_waits start.args.t.options k (hands start.args.s)) c.up-card.ensures ∙ start.requires
+pub hand_in_turn-turn-requires : goal.hand_in_turn-turn-requires
+hand_in_turn-turn-requires c = c.requires
+
+pub seat-requires : goal.seat-requires
+seat-requires c = c.requires.nine
 
 pub returns : goal.returns
+unfolding end_effect
 returns c =
-    let start = c in
-    c.with_ended_hand.ensures ∙ ap (λ (k : ℕ). with_ended_hand start.args.t.options k start.args.s start.args.code) c.up-card.ensures
+    seat_moves c.args.t.now _ (rw c.table.ensures.same at c.seat_moved.ensures)
+    ∙ simp (c.with_place.ensures, c.seat.ensures, c.hand_in_turn-turn.ensures.place, c.hand_in_turn-turn.ensures.hand)

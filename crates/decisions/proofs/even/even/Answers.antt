@@ -1,22 +1,18 @@
--- The number decides; where it is 0 the seat's turn has come, and the hand ends.
-use mathlib.Core.Path.{refl, sym, ◌∙◌}
+-- Why it is refused, or the effect: the turn of an accepted call's seat has come, and its hand ends.
+use mathlib.Core.Path.{◌≡◌, refl, sym, ◌∙◌}
 use Rattle.lists.specs.Tests.{all_of}
-use Rattle.decisions_spec.specs.Even.{even_conditions, even_effect}
+use Rattle.answer.proofs.outcome.Laws.{refused-seat, accepted}
+use Rattle.decisions_spec.specs.Even.{even_conditions}
 use Rattle.decisions_spec.proofs.Turn.{turn-accepted}
 use Rattle.decisions.proofs.turn.Laws.{in_turn_lem}
-use Rattle.decisions.proofs.end.Laws.{answered}
 use Rattle.decisions.proofs.even.even.Goals as goal
 
-pub even_number-number-requires : goal.even_number-number-requires
-even_number-number-requires c = c.requires
+pub returns-in_err-check_even : goal.returns-in_err-check_even
+returns-in_err-check_even c = refused-seat _ _ _ _ _ _ c.from_residual.ensures.1 c.in_err-check_even.ensures
 
-pub answer-requires : goal.answer-requires
+pub ended-requires : goal.ended-requires
 unfolding even_conditions all_of
-answer-requires c = ((λ none. in_turn_lem _ _ (turn-accepted _ _ _ _ refl (sym c.even_number-number.ensures ∙ none)).0), c.requires.1)
+ended-requires c = in_turn_lem _ _ (turn-accepted _ _ _ _ refl (sym c.in_ok-check_even.ensures)).0
 
 pub returns : goal.returns
-returns c =
-    let t = c.args.t in
-    let j = c.args.at.seat in
-    let p = c.args.at.position in
-    answered (even_conditions t j p) (even_effect t j) t _ _ c.even_number-number.ensures c.answer.ensures
+returns c = accepted _ _ _ c.in_ok-check_even.ensures c.ended.ensures

@@ -1,15 +1,24 @@
--- Where ends count, some seat has acted exactly if somebody has drawn, doubled or split, or a hand has ended by a decision.
-use mathlib.Core.Path.{◌∙◌}
-use mathlib.Core.Bool.{true}
+-- Somebody has drawn, or else the nine seats are asked for a hand that has ended.
+use Rattle.std.proofs.Common.{◌≡◌, ◌∙◌, sym, ap, length, rules, tests, true, false, Bool}
+use Rattle.std.proofs.lemmas.Iterator.{YieldsList-from_slice}
+use Rattle.std.proofs.lemmas.Iterator.Search.{any_from_yields_List}
+use mathlib.Core.Bool.{◌||◌}
 use lib.Dec.{ltb}
 use Rattle.lists.specs.Tests.{any_of}
-use Rattle.rules.specs.SeatHand.{Played}
-use Rattle.rules.specs.Drew.{seat_drew}
-use Rattle.table.specs.Table.{seats_hands}
-use Rattle.table.specs.Progress.{any_drew, any_decided}
-use Rattle.lists.proofs.Tests.{any_both}
+use Rattle.lists.proofs.Chains.{any_of-list_any}
+use Rattle.lists.proofs.Parts.{any_map}
+use Rattle.table.specs.declared.Seat.{Seat}
+use Rattle.table.specs.Progress.{any_decided}
+use Rattle.table.specs.Seat.{hands}
 use Rattle.decisions.proofs.progress.any_decided.Goals as goal
 
-pub returns : goal.returns
-unfolding any_drew any_decided
-returns c = c.some_acted.ensures ∙ any_both seat_drew (any_of (λ (h : Played). ltb 0 h.ended)) true (seats_hands c.args.t)
+pub returns-then-any_drew : goal.returns-then-any_drew
+unfolding any_decided
+returns-then-any_drew c = rw (← c.any_drew.ensures, c.if-any_drew.true)
+
+pub returns-else-any_drew : goal.returns-else-any_drew
+unfolding any_decided
+returns-else-any_drew c =
+    let test = λ (s : Seat). any_of (λ h. ltb 0 h.ended) (hands s) in
+    rw (← c.any_drew.ensures, c.if-any_drew.false, any_map, any_of-list_any)
+    (any_from_yields_List test _ _ _ c.any.ensures.ran (YieldsList-from_slice c.args.t.now.seats cc) (λ x b q k. search (rules, tests)))

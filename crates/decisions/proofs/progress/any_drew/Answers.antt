@@ -1,17 +1,18 @@
--- Where ends do not count, a seat has acted exactly if it has drawn, doubled or split.
-use mathlib.Core.Path.{◌∙◌}
-use mathlib.Core.Bool.{false, or-false}
-use lib.Dec.{ltb}
-use Rattle.lists.specs.Tests.{any_of}
-use Rattle.rules.specs.SeatHand.{Played}
+-- The nine seats are asked in their order.
+use Rattle.std.proofs.Common.{◌≡◌, ◌∙◌, sym, length, rules, tests}
+use Rattle.std.proofs.lemmas.Iterator.{YieldsList-from_slice}
+use Rattle.std.proofs.lemmas.Iterator.Search.{any_from_yields_List}
+use Rattle.lists.proofs.Chains.{any_of-list_any}
+use Rattle.lists.proofs.Parts.{any_map}
 use Rattle.rules.specs.Drew.{seat_drew}
-use Rattle.table.specs.Table.{seats_hands}
+use Rattle.table.specs.declared.Seat.{Seat}
 use Rattle.table.specs.Progress.{any_drew}
-use Rattle.lists.proofs.Tests.{any_both}
+use Rattle.table.specs.Seat.{hands}
 use Rattle.decisions.proofs.progress.any_drew.Goals as goal
 
 pub returns : goal.returns
 unfolding any_drew
 returns c =
-    let hands = seats_hands c.args.t in
-    c.some_acted.ensures ∙ any_both seat_drew (any_of (λ (h : Played). ltb 0 h.ended)) false hands ∙ or-false (any_of seat_drew hands)
+    let t = c.args.t.now in
+    let test = λ (s : Seat). seat_drew (hands s) in
+    rw (any_map, any_of-list_any) (any_from_yields_List test _ _ _ c.any.ensures.ran (YieldsList-from_slice t.seats cc) (λ x b q k. search (rules, tests)))

@@ -1,18 +1,14 @@
 -- stand asks the conditions in turn and no more; where none holds the hand ends.
-use Rattle.decisions_spec.specs.Stand.{stand_conditions, stand_effect}
+use mathlib.Core.Path.{◌≡◌}
+use Rattle.answer.proofs.outcome.Laws.{refused-seat, accepted}
 use Rattle.decisions.proofs.turn.Laws.{turn_comes}
-use Rattle.decisions.proofs.end.Laws.{answered}
 use Rattle.decisions.proofs.stand.stand.Goals as goal
 
-pub turn_number-number-requires : goal.turn_number-number-requires
-turn_number-number-requires c = c.requires
+pub returns-in_err-check_turn : goal.returns-in_err-check_turn
+returns-in_err-check_turn c = refused-seat _ _ _ _ _ _ c.from_residual.ensures.1 c.in_err-check_turn.ensures
 
-pub answer-requires : goal.answer-requires
-answer-requires c = (turn_comes _ _ _ _ c.turn_number-number.ensures, c.requires.1)
+pub ended-requires : goal.ended-requires
+ended-requires c = turn_comes _ _ _ c.in_ok-check_turn.ensures
 
 pub returns : goal.returns
-returns c =
-    let t = c.args.t in
-    let j = c.args.at.seat in
-    let p = c.args.at.position in
-    answered (stand_conditions t j p) (stand_effect t j) t _ _ c.turn_number-number.ensures c.answer.ensures
+returns c = accepted _ _ _ c.in_ok-check_turn.ensures c.ended.ensures

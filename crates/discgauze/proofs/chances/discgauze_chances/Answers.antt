@@ -15,6 +15,5 @@ returns-then-left-ne52 c = c.wrong_length.ensures ∙ rw (ne_eqb (length c.args.
 pub returns : goal.returns
 unfolding chances_by
 returns c =
-    let copied = c in
-    let a = copied.args in
-    c.chances.ensures ∙ ap (λ (l : List ℕ). chances_of a.up l a.depth) copied.faces_of.ensures ∙ rw (eq-eqb (length a.left.now) 52 copied.if-left-ne52.false)
+    let a = c.args in
+    c.chances.ensures ∙ ap (λ (l : List ℕ). chances_of a.up l a.depth) c.faces_of.ensures ∙ rw (eq-eqb (length a.left.now) 52 c.if-left-ne52.false)

@@ -11,31 +11,22 @@ pub returns-then-broken : goal.returns-then-broken
 unfolding guest_or_empty
 returns-then-broken c = rw (sym c.broken.ensures ∙ c.if-broken.true) c.empty_seat.ensures
 
-pub returns-then-o-seat : goal.returns-then-o-seat
+pub returns-then-t-seat : goal.returns-then-t-seat
 unfolding guest_or_empty
-returns-then-o-seat c =
-    let sound = c in
-    simp (sym sound.broken.ensures ∙ sound.if-broken.false, le-leb _ _ c.if-o-seat.true) c.empty_seat-then-o-seat.ensures
+returns-then-t-seat c =
+    simp (sym c.broken.ensures ∙ c.if-broken.false, le-leb _ _ c.if-t-seat.true) c.empty_seat-then-t-seat.ensures
 
 pub returns-then-position-ge3 : goal.returns-then-position-ge3
 unfolding guest_or_empty
 returns-then-position-ge3 c =
-    let seat = c in
-    let sound = seat in
-    simp (sym sound.broken.ensures ∙ sound.if-broken.false, lt-leb _ _ seat.if-o-seat.false, le-leb _ _ c.if-position-ge3.true) c.empty_seat-then-position-ge3.ensures
+    simp (sym c.broken.ensures ∙ c.if-broken.false, lt-leb _ _ c.if-t-seat.false, le-leb _ _ c.if-position-ge3.true) c.empty_seat-then-position-ge3.ensures
 
 pub seat_at-requires : goal.seat_at-requires
 seat_at-requires c =
-    let seat = c in
-    let sound = seat in
-    seat_of-nine _ _ (sym sound.broken.ensures ∙ sound.if-broken.false) (lt-leb _ _ seat.if-o-seat.false)
+    seat_of-nine _ _ (sym c.broken.ensures ∙ c.if-broken.false) (lt-leb _ _ c.if-t-seat.false)
 
 pub returns : goal.returns
 unfolding guest_or_empty
 returns c =
-    let position = c in
-    let seat = position in
-    let sound = seat in
-    let args = sound.args in
-    simp (sym sound.broken.ensures ∙ sound.if-broken.false, lt-leb _ _ seat.if-o-seat.false, lt-leb _ _ position.if-position-ge3.false)
-    (c.guest_at.ensures ∙ ap (λ (s : Seat). guest_at s args.position) c.seat_at.ensures)
+    simp (sym c.broken.ensures ∙ c.if-broken.false, lt-leb _ _ c.if-t-seat.false, lt-leb _ _ c.if-position-ge3.false)
+    (c.guest_at.ensures ∙ ap (λ (s : Seat). guest_at s c.args.position) c.seat_at.ensures)

@@ -8,8 +8,7 @@ use Rattle.display.proofs.seat.seat_values.Goals as goal
 
 pub returns : goal.returns
 returns c =
-    let start = c in
-    let s = start.args.s in
+    let s = c.args.s in
     let full : length s.hands.places ≡ 4 = search rules in
     let many : c.used.result ≡ length (hands s) = c.used.ensures ∙ sym (many_hands s.hands full) in
     rw (c.laid.ensures, c.prizes.ensures, many)

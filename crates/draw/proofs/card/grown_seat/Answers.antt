@@ -23,12 +23,7 @@ card_money-other-requires c = c.requires 2 (omega arith)
 
 pub returns : goal.returns
 returns c =
-    let other = c in
-    let one = other in
-    let seated = one in
-    let place = seated in
-    let start = place in
-    let s = start.args.s in
+    let s = c.args.s in
     let two : length s.others ≡ 2 = search rules in
-    let others = others_are (card_money start.args.o start.args.times (played_of start.args.h)) s.others two one.card_money-one.ensures other.card_money-other.ensures in
-    seat_is start.args.o start.args.card start.args.times s start.args.h c.with_place.ensures place.waiting_place-p.ensures seated.card_money-seated.ensures others
+    let others = others_are (card_money c.args.o c.args.times (played_of c.args.h)) s.others two c.card_money-one.ensures c.card_money-other.ensures in
+    seat_is c.args.o c.args.times s c.args.h c.args.p c.with_place.ensures c.card_money-seated.ensures others

@@ -1,37 +1,22 @@
 -- The two cards are the shoe's next ones.
-use mathlib.Core.Path.{◌≡◌, refl, sym}
-use lib.ListN.{length}
-use Rattle.draw.proofs.card.Laws.{place_is}
-use Rattle.draw.proofs.split.Accepted.{read_pays}
+use mathlib.Core.Path.{◌≡◌}
+use native.Mathlib.Omega.{arith}
 use Rattle.draw.proofs.split.Effect.{same_effect}
-use borrow.Author.Rules.{rules}
-use Rattle.draw.proofs.split.split_moved.Goals.{Start}
 use Rattle.draw.proofs.split.split_moved.Goals as goal
 
-whole : (c : Start) → length c.args.t.shoe.order ≡ 416
-whole c = search rules
+pub seat-s-requires : goal.seat-s-requires
+seat-s-requires c = c.requires.turn.nine
 
-pub slice_bounds-card_ahead-end : goal.slice_bounds-card_ahead-end
-slice_bounds-card_ahead-end c = sym (whole (goal.at.slice_bounds-card_ahead-end c).Start)
+pub hand_in_turn-turn-requires : goal.hand_in_turn-turn-requires
+hand_in_turn-turn-requires c = c.requires.turn
 
-pub slice_bounds-card_ahead-end-2 : goal.slice_bounds-card_ahead-end-2
-slice_bounds-card_ahead-end-2 c = sym (whole (goal.at.slice_bounds-card_ahead-end-2 c).Start)
+pub split_seat-requires-clause-pays : goal.split_seat-requires-clause-pays
+split_seat-requires-clause-pays c = rw c.seat-s.ensures c.requires.pays
 
-pub split_seat-seat-requires : goal.split_seat-seat-requires
-split_seat-seat-requires c =
-    let read = c in
-    let start = read in
-    read_pays start.args.t start.args.at.seat _ _ read.up-card.ensures start.requires.1 start.requires.0
+pub overflow_add-result : goal.overflow_add-result
+overflow_add-result c = rw c.table-table.ensures.same (omega (arith, c.requires.two_left))
 
-pub returns : goal.returns
-returns c =
-    let seat = c in
-    let place = seat in
-    let read = place in
-    let start = read in
-    let t = start.args.t in
-    let j = start.args.at.seat in (
-      refl,
-      same_effect t j place.waiting_place-hand.result seat.split_seat-seat.ensures seat.card_ahead-first.ensures seat.card_ahead-second.ensures read.up-card.ensures start.requires.1,
-      place_is t j place.waiting_place-hand.ensures read.up-card.ensures start.requires.1,
-    )
+pub returns-clause-table : goal.returns-clause-table
+returns-clause-table c =
+    let turn = c.hand_in_turn-turn.ensures in
+    same_effect c.args.t.now c.args.at.seat c.hand_in_turn-turn.result.place c.table-table.ensures.same c.split_seat.ensures c.card_ahead-first.ensures c.card_ahead-second.ensures turn.place turn.hand c.seat-s.ensures

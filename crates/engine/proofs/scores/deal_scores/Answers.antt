@@ -1,4 +1,4 @@
--- Seat by seat: before each turn the scores are those of the staked seats among the first i, and so at most i.
+-- Seat by seat: before each turn the scores are those of the staked seats before it, and so at most as many.
 use mathlib.Core.Path.{◌≡◌, ◌∙◌, ap}
 use mathlib.Core.List.{List, map}
 use native.Mathlib.Omega.{arith}
@@ -14,34 +14,28 @@ use Rattle.engine.specs.Scores.{place_score}
 use Rattle.engine.proofs.scores.Laws.{scores_to, score-next, score-same}
 use borrow.Author.Rules.{rules}
 use Rattle.engine.proofs.scores.deal_scores.Goals as goal
-use Rattle.engine.proofs.scores.deal_scores.Goals.{then-money-gt0, else-money-gt0}
+use Rattle.engine.proofs.scores.deal_scores.Goals.{then-s-gt0, else-s-gt0}
 
-pub loop-i-init : goal.loop-i-init
+pub loop-s-init : goal.loop-s-init
 unfolding those
-loop-i-init c = (omega arith, c.no_scores-all.ensures, omega arith)
+loop-s-init c = (c.no_scores-all.ensures, omega arith)
 
-pub loop-i-preserved : goal.loop-i-preserved
-loop-i-preserved c =
-    let at = c in
-    let start = at in
-    let t = start.args.after in
-    let i = at.loop-i.i in
+pub loop-s-preserved : goal.loop-s-preserved
+loop-s-preserved c =
+    let t = c.args.after in
+    let i = c.loop-s.s-index in
     let full : length t.seats ≡ 9 = search rules in
-    let more = score-next t.seats i (omega arith) at.loop-i.all at.loop-i.invariant.1 at.loop-i.invariant.2 in
-    let same = score-same t.seats i (omega arith) at.loop-i.all at.loop-i.invariant.1 at.loop-i.invariant.2 in
-    elim c.if-money-gt0.branch [
-      | then-money-gt0 w ↦
-          let next = more (omega (arith, w.if-money-gt0.true)) (lt-ltb _ _ w.if-money-gt0.true) c.if-money-gt0.all w.seat_score.result (w.all-is ∙ w.with_score-all.ensures) w.seat_score.ensures in
-          (omega arith, next.0, next.1)
-      | else-money-gt0 w ↦ let next = same (le-ltb _ _ w.if-money-gt0.false) c.if-money-gt0.all w.all-is in (omega arith, next.0, next.1)
+    let more = score-next t.seats i (omega arith) c.loop-s.all c.loop-s.invariant.0 c.loop-s.invariant.1 in
+    let same = score-same t.seats i (omega arith) c.loop-s.all c.loop-s.invariant.0 c.loop-s.invariant.1 in
+    elim c.if-s-gt0.branch [
+      | then-s-gt0 w ↦ more (omega arith) (lt-ltb _ _ w.if-s-gt0.true) c.if-s-gt0.all w.seat_score.result (w.all-is ∙ w.with_score-all.ensures) w.seat_score.ensures
+      | else-s-gt0 w ↦ same (le-ltb _ _ w.if-s-gt0.false) c.if-s-gt0.all w.all-is
     ]
 
 pub returns : goal.returns
 returns c =
-    let at = c in
-    let start = at in
-    let t = start.args.after in
+    let t = c.args.after in
     let full : length t.seats ≡ 9 = search rules in
-    ap scores_of at.loop-i.invariant.1
-    ∙ scores_are (scores_to t.seats at.loop-i.i) (rw length-map (omega arith))
-    ∙ ap (λ (ss : List Seat). map (λ s. place_score s 0) (those is_staked ss)) (take_all at.loop-i.i t.seats (omega arith))
+    ap scores_of c.loop-s.invariant.0
+    ∙ scores_are (scores_to t.seats c.loop-s.s-index) (rw length-map (omega arith))
+    ∙ ap (λ (ss : List Seat). map (λ s. place_score s 0) (those is_staked ss)) (take_all c.loop-s.s-index t.seats (omega arith))

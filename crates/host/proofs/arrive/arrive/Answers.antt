@@ -1,34 +1,30 @@
--- The number decides: the hosted table as it was, or the effect; an accepted arrival names one of the nine seats and of the three positions.
+-- Why it is refused, or the effect; an accepted arrival names one of the nine seats and of the three positions.
 use mathlib.Core.Path.{sym, ◌∙◌, ap}
 use native.Mathlib.Omega.{arith}
+use Rattle.call.specs.declared.refusal.Refusal.TheVariants.{Broken}
 use Rattle.host_spec.specs.Cards.{place_at, with_card}
-use Rattle.host_spec.specs.Arrive.{arrive_conditions, arrive_effect}
-use Rattle.host.proofs.Outcomes.{host_refused, host_accepted_lem, broken-first}
+use Rattle.host_spec.specs.Arrive.{arrive_conditions}
+use Rattle.host.proofs.Outcomes.{host_refused, host_met, host_accepted_lem, broken-first}
 use Rattle.host.proofs.arrive.Laws.{arrive_inside}
 use Rattle.host.proofs.arrive.arrive.Goals as goal
 
 pub returns-then-host_broken : goal.returns-then-host_broken
 unfolding arrive_conditions
-returns-then-host_broken c =
-    let a = c.args in
-    host_refused (arrive_conditions a.h a.at.seat a.at.position a.card) (arrive_effect a.h a.at.seat a.at.position a.card) a.h 1 (broken-first _ _ (sym c.host_broken.ensures ∙ c.if-host_broken.true)) (λ none. absurd (omega arith))
+returns-then-host_broken c = host_refused _ _ _ Broken (broken-first _ _ (sym c.host_broken.ensures ∙ c.if-host_broken.true))
 
-pub arrive_number-number-requires : goal.arrive_number-number-requires
-arrive_number-number-requires c = sym c.host_broken.ensures ∙ c.if-host_broken.false
+pub check_arrive-requires : goal.check_arrive-requires
+check_arrive-requires c = sym c.host_broken.ensures ∙ c.if-host_broken.false
 
-pub returns-then-number-ne0 : goal.returns-then-number-ne0
-returns-then-number-ne0 c =
-    let a = c.args in
-    host_refused (arrive_conditions a.h a.at.seat a.at.position a.card) (arrive_effect a.h a.at.seat a.at.position a.card) a.h _ c.arrive_number-number.ensures c.if-number-ne0.true
+pub returns-in_err-check_arrive : goal.returns-in_err-check_arrive
+returns-in_err-check_arrive c = host_met _ _ _ _ _ c.from_residual.ensures.1 c.in_err-check_arrive.ensures
 
 pub bounds-next-place : goal.bounds-next-place
 bounds-next-place c =
     let a = c.args in
-    let (nine, three) = arrive_inside a.h a.at.seat a.at.position a.card (sym c.arrive_number-number.ensures ∙ c.if-number-ne0.false) in
+    let (nine, three) = arrive_inside a.h a.at.seat a.at.position a.card (sym c.in_ok-check_arrive.ensures) in
     omega (arith, nine, three)
 
 pub returns : goal.returns
 returns c =
     let a = c.args in
-    host_accepted_lem (arrive_conditions a.h a.at.seat a.at.position a.card) (arrive_effect a.h a.at.seat a.at.position a.card) a.h _ _ c.arrive_number-number.ensures c.if-number-ne0.false
-    (ap (with_card a.h (place_at a.at.seat a.at.position)) c.arrived.ensures)
+    host_accepted_lem _ _ _ _ c.in_ok-check_arrive.ensures (ap (with_card a.h (place_at a.at.seat a.at.position)) c.arrived.ensures)

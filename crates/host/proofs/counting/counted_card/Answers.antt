@@ -21,13 +21,13 @@ then_is : (c : After-guest_money-then) → c.guest_money-then.result ≡ (guest_
 then_is c = c.guest_money-then.ensures ∙ ap (λ (s : Seat). (guest_at s (c.args.place % 3)).money) c.seat_at-2.ensures
 
 gained : (c : After-guest_money-then) → purse (guest_of c.args.t (c.args.place / 3) (c.args.place % 3)) ≤ purse (guest_of c.args.after (c.args.place / 3) (c.args.place % 3))
-gained c = let start = c in gains start.args.t start.args.after start.requires.shape start.requires.accepted start.requires.closed start.args.place start.requires.inside
+gained c = gains c.args.t c.args.after c.requires.shape c.requires.accepted c.requires.closed c.args.place c.requires.inside
 
 small-back : (c : After-guest_money-then) → came_back c.args.t c.args.after (c.args.place / 3) (c.args.place % 3) ≤ most_back
-small-back c = let start = c in back_small start.args.t start.args.after start.requires.shape start.requires.accepted start.requires.closed start.args.place start.requires.inside
+small-back c = back_small c.args.t c.args.after c.requires.shape c.requires.accepted c.requires.closed c.args.place c.requires.inside
 
 small-laid : (c : After-guest_money-then) → laid (guest_of c.args.t (c.args.place / 3) (c.args.place % 3)) ≤ most_laid
-small-laid c = let start = c in laid-small start.args.t start.args.after start.requires.shape start.requires.accepted start.requires.closed start.args.place start.requires.inside
+small-laid c = laid-small c.args.t c.args.after c.requires.shape c.requires.accepted c.requires.closed c.args.place c.requires.inside
 
 -- what came back, and what was laid
 back_is : (c : After-prizes) → c.guest_money-then.result.purse - c.guest_at-s.result.money.purse + c.prizes.result ≡ came_back c.args.t c.args.after (c.args.place / 3) (c.args.place % 3)
@@ -43,39 +43,34 @@ laid_is c = c.laid.ensures ∙ ap laid (c.guest_at-s.ensures ∙ ap (λ (s : Sea
 pub returns-then-g-ne1 : goal.returns-then-g-ne1
 returns-then-g-ne1 c = let a = c.args in not_here a.t a.after (a.place / 3) (a.place % 3) a.g c.if-g-ne1.true
 
-pub returns-then-tally-ge-MOST_ROUNDS : goal.returns-then-tally-ge-MOST_ROUNDS
-returns-then-tally-ge-MOST_ROUNDS c = let a = c.args in stands_still a.t a.after (a.place / 3) (a.place % 3) a.g c.if-tally-ge-MOST_ROUNDS.true
+pub returns-then-g-ge-MOST_ROUNDS : goal.returns-then-g-ge-MOST_ROUNDS
+returns-then-g-ge-MOST_ROUNDS c = let a = c.args in stands_still a.t a.after (a.place / 3) (a.place % 3) a.g c.if-g-ge-MOST_ROUNDS.true
 
-pub returns-then-money-eq0 : goal.returns-then-money-eq0
-returns-then-money-eq0 c =
+pub returns-then-s-eq0 : goal.returns-then-s-eq0
+returns-then-s-eq0 c =
     let a = c.args in
-    not_staked a.t a.after (a.place / 3) (a.place % 3) a.g c.guest_at-s.result (guest-is (goal.at.returns-then-money-eq0 c).After-guest_at-s) c.if-money-eq0.true
+    not_staked a.t a.after (a.place / 3) (a.place % 3) a.g c.guest_at-s.result (guest-is (goal.at.returns-then-s-eq0 c).After-guest_at-s) c.if-s-eq0.true
 
 pub seat_at-requires-2 : goal.seat_at-requires-2
 seat_at-requires-2 c = let inside = c.requires.inside in omega arith
 
 pub overflow_sub-back : goal.overflow_sub-back
-overflow_sub-back c = let paid = c in omega (arith, gained (goal.at.overflow_sub-back paid).After-guest_money-then, ap purse (guest-is (goal.at.overflow_sub-back paid).After-guest_at-s), ap (λ (m : Money). m.purse) (then_is (goal.at.overflow_sub-back paid).After-guest_money-then))
+overflow_sub-back c = omega (arith, gained (goal.at.overflow_sub-back c).After-guest_money-then, ap purse (guest-is (goal.at.overflow_sub-back c).After-guest_at-s), ap (λ (m : Money). m.purse) (then_is (goal.at.overflow_sub-back c).After-guest_money-then))
 
 pub overflow_add-back : goal.overflow_add-back
 overflow_add-back c = omega (arith, back_is c, small-back (goal.at.overflow_add-back c).After-guest_money-then)
 
 pub with_round-next-requires : goal.with_round-next-requires
 with_round-next-requires c =
-    let won = c in
-    let start = won in
-    let a = start.args in
+    let a = c.args in
     record {
-      sound = card-fits a.t.options a.place a.g start.requires.sound;
-      room = won.if-tally-ge-MOST_ROUNDS.false;
-      small = (omega (arith, laid_is (goal.at.with_round-next-requires won).After-laid, small-laid (goal.at.with_round-next-requires won).After-guest_money-then), omega (arith, back_is (goal.at.with_round-next-requires won).After-prizes, small-back (goal.at.with_round-next-requires won).After-guest_money-then));
+      sound = card-fits a.t.options a.place a.g c.requires.sound;
+      room = c.if-g-ge-MOST_ROUNDS.false;
+      small = (omega (arith, laid_is (goal.at.with_round-next-requires c).After-laid, small-laid (goal.at.with_round-next-requires c).After-guest_money-then), omega (arith, back_is (goal.at.with_round-next-requires c).After-prizes, small-back (goal.at.with_round-next-requires c).After-guest_money-then));
     }
 
 pub returns : goal.returns
 returns c =
-    let there = c in
-    let won = there in
-    let guest = won in
-    let a = won.args in
-    counts_there a.t a.after (a.place / 3) (a.place % 3) a.g won.if-g-ne1.false won.if-tally-ge-MOST_ROUNDS.false guest.guest_at-s.result (guest-is (goal.at.returns guest).After-guest_at-s) won.if-money-eq0.false _
-    (c.with_round-next.ensures ∙ ap₂ (with_round a.g.tally) (laid_is (goal.at.returns there).After-laid) (back_is (goal.at.returns won).After-prizes))
+    let a = c.args in
+    counts_there a.t a.after (a.place / 3) (a.place % 3) a.g c.if-g-ne1.false c.if-g-ge-MOST_ROUNDS.false c.guest_at-s.result (guest-is (goal.at.returns c).After-guest_at-s) c.if-s-eq0.false _
+    (c.with_round-next.ensures ∙ ap₂ (with_round a.g.tally) (laid_is (goal.at.returns c).After-laid) (back_is (goal.at.returns c).After-prizes))

@@ -1,48 +1,9 @@
--- `find_card` looks place by place: before each turn the card sits at none of the first k.
-use mathlib.Core.Path.{◌≡◌, sym, ◌∙◌}
-use native.Mathlib.Numerals.{add-one}
-use native.Mathlib.Omega.{arith}
-use lib.ListN.{length}
-use lib.Seq.{take_all}
-use Rattle.lists.specs.Tests.{any_of}
-use Rattle.lists.proofs.Tests.{any_take, first_here, first-none}
-use Rattle.host_spec.specs.Cards.{no_card, holds}
-use borrow.Author.Rules.{rules}
+-- The 27 places are asked in their order.
+use Rattle.std.proofs.Common.{rules, tests}
+use Rattle.std.proofs.lemmas.Iterator.{YieldsList-from_slice}
+use Rattle.std.proofs.lemmas.Iterator.Search.{position_from_yields_List}
+use Rattle.host_spec.specs.Cards.{holds}
 use Rattle.host.proofs.places.find_card.Goals as goal
 
-pub loop-k-init : goal.loop-k-init
-unfolding any_of
-loop-k-init c = search rules
-
-pub offset_bounds-cards-k : goal.offset_bounds-cards-k
-offset_bounds-cards-k c = omega arith
-
-pub bounds-cards-k : goal.bounds-cards-k
-bounds-cards-k c = omega arith
-
-pub returns-then-holds : goal.returns-then-holds
-returns-then-holds c =
-    let at = c in
-    let cards = at.args.cards in
-    let full : length cards ≡ 27 = search rules in
-    sym (first_here (holds at.args.card) cards at.loop-k.k no_card (omega arith) at.loop-k.invariant.1 (sym c.holds.ensures ∙ c.if-holds.true))
-
-pub overflow_step-k : goal.overflow_step-k
-overflow_step-k c = omega arith
-
-pub loop-k-smaller : goal.loop-k-smaller
-loop-k-smaller c = omega arith
-
-pub loop-k-preserved : goal.loop-k-preserved
-loop-k-preserved c =
-    let at = c in
-    let cards = at.args.cards in
-    let full : length cards ≡ 27 = search rules in
-    (omega arith, rw (add-one, any_take (holds at.args.card) cards at.loop-k.k no_card (omega arith), at.loop-k.invariant.1) (sym c.holds.ensures ∙ c.if-holds.false))
-
 pub returns : goal.returns
-returns c =
-    let at = c in
-    let cards = at.args.cards in
-    let full : length cards ≡ 27 = search rules in
-    sym (first-none (holds at.args.card) cards (rw (take_all at.loop-k.k cards (omega arith)) at at.loop-k.invariant.1) ∙ full)
+returns c = position_from_yields_List (holds c.args.card) _ _ _ c.position.ensures.ran (YieldsList-from_slice c.args.cards cc) (λ x b q k. search (rules, tests))

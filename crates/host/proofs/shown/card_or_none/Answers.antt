@@ -19,19 +19,19 @@ whole c = sym c.host_broken.ensures ∙ c.if-host_broken.false
 inside : (c : Else-position-ge3) → place_at c.args.seat c.args.position < 27
 inside c =
     let a = c.args in
-    omega (arith, seat_of-nine a.h.table a.seat (whole_table a.h (whole c)) (lt-leb _ _ c.if-o-seat.false), c.if-position-ge3.false)
+    omega (arith, seat_of-nine a.h.table a.seat (whole_table a.h (whole c)) (lt-leb _ _ c.if-h-seat.false), c.if-position-ge3.false)
 
 pub returns-then-host_broken : goal.returns-then-host_broken
 unfolding card_or_none
 returns-then-host_broken c = record { same = rw (sym c.host_broken.ensures ∙ c.if-host_broken.true) c.no_card.ensures; small = small-none _ c.no_card.ensures }
 
-pub returns-then-o-seat : goal.returns-then-o-seat
+pub returns-then-h-seat : goal.returns-then-h-seat
 unfolding card_or_none
-returns-then-o-seat c = record { same = simp (sym c.host_broken.ensures ∙ c.if-host_broken.false, le-leb _ _ c.if-o-seat.true) c.no_card-then-o-seat.ensures; small = small-none _ c.no_card-then-o-seat.ensures }
+returns-then-h-seat c = record { same = simp (sym c.host_broken.ensures ∙ c.if-host_broken.false, le-leb _ _ c.if-h-seat.true) c.no_card-then-h-seat.ensures; small = small-none _ c.no_card-then-h-seat.ensures }
 
 pub returns-then-position-ge3 : goal.returns-then-position-ge3
 unfolding card_or_none
-returns-then-position-ge3 c = record { same = simp (sym c.host_broken.ensures ∙ c.if-host_broken.false, lt-leb _ _ c.if-o-seat.false, le-leb _ _ c.if-position-ge3.true) c.no_card-then-position-ge3.ensures; small = small-none _ c.no_card-then-position-ge3.ensures }
+returns-then-position-ge3 c = record { same = simp (sym c.host_broken.ensures ∙ c.if-host_broken.false, lt-leb _ _ c.if-h-seat.false, le-leb _ _ c.if-position-ge3.true) c.no_card-then-position-ge3.ensures; small = small-none _ c.no_card-then-position-ge3.ensures }
 
 pub bounds-h-place : goal.bounds-h-place
 bounds-h-place c = inside c
@@ -39,6 +39,5 @@ bounds-h-place c = inside c
 pub returns : goal.returns
 unfolding card_or_none
 returns c =
-    let at = c in
-    let a = at.args in
-    record { same = simp (whole (goal.at.returns at).Else-position-ge3, lt-leb _ _ at.if-o-seat.false, lt-leb _ _ at.if-position-ge3.false); small = small-card a.h (place_at a.seat a.position) (whole (goal.at.returns at).Else-position-ge3) (inside (goal.at.returns at).Else-position-ge3) }
+    let a = c.args in
+    record { same = simp (whole (goal.at.returns c).Else-position-ge3, lt-leb _ _ c.if-h-seat.false, lt-leb _ _ c.if-position-ge3.false); small = small-card a.h (place_at a.seat a.position) (whole (goal.at.returns c).Else-position-ge3) (inside (goal.at.returns c).Else-position-ge3) }

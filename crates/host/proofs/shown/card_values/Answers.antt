@@ -5,11 +5,10 @@ use Rattle.host.specs.Shown.{make_card_shown}
 use Rattle.host.proofs.Nets.{casts_fit, casts_net}
 use Rattle.host.proofs.shown.card_values.Goals as goal
 
-pub overflow_sub-net : goal.overflow_sub-net
-overflow_sub-net c = let start = c in let tally = start.args.g.tally in casts_fit tally.returned tally.wagered start.requires.1 start.requires.0
+pub overflow_sub-result : goal.overflow_sub-result
+overflow_sub-result c = let tally = c.args.g.tally in casts_fit tally.returned tally.wagered c.requires.1 c.requires.0
 
 pub returns : goal.returns
 returns c =
-    let start = c in
-    let g = start.args.g in
-    ap (make_card_shown (is_here g) g.card g.tally.rounds g.tally.wagered) (casts_net g.tally.returned g.tally.wagered start.requires.1 start.requires.0)
+    let g = c.args.g in
+    ap (make_card_shown (is_here g) g.card g.tally.rounds g.tally.wagered) (casts_net g.tally.returned g.tally.wagered c.requires.1 c.requires.0)

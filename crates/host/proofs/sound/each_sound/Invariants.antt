@@ -2,7 +2,7 @@
 use mathlib.Core.Path.{◌≡◌}
 use mathlib.Core.Bool.{Bool, true}
 use mathlib.Core.List.{List}
-use Prim.Native.Nat.{ℕ, ◌-◌, ◌≤◌}
+use Prim.Native.Nat.{ℕ}
 use lib.ListN.{get_or}
 use Rattle.lists.specs.Below.{all_below}
 use Rattle.options.specs.declared.Options.{Options}
@@ -15,7 +15,4 @@ abbrev passes : Options → List GuestCard → ℕ → Bool
 passes o cards k = sound_card o k (get_or cards k no_card)
 
 abbrev pub invariant-loop-k : goal.invariant-loop-k
-invariant-loop-k l = (l.k ≤ 27) × (all_below (passes l.o l.cards) l.k ≡ true)
-
-abbrev pub decreases-loop-k : goal.decreases-loop-k
-decreases-loop-k l = 27 - l.k
+invariant-loop-k l = all_below (passes l.o l.fn.cards) l.k ≡ true

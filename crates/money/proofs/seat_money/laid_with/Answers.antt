@@ -15,28 +15,24 @@ use Rattle.money.proofs.seat_money.laid_with.Goals as goal
 full : (c : Start) → length c.args.s.hands.places ≡ 4
 full c = search rules
 
-pub returns-then-hands-eq0 : goal.returns-then-hands-eq0
+pub returns-then-s-eq0 : goal.returns-then-s-eq0
 unfolding laid
-returns-then-hands-eq0 c =
-    let start = c in
-    let s = start.args.s in
-    simp (no_hand s.hands (full (goal.at.returns-then-hands-eq0 start).Start), eq-eqb _ _ c.if-hands-eq0.true) (omega (arith, c.all_sides-beside.ensures.same))
+returns-then-s-eq0 c =
+    let s = c.args.s in
+    simp (no_hand s.hands (full (goal.at.returns-then-s-eq0 c).Start), eq-eqb _ _ c.if-s-eq0.true) (omega (arith, c.all_sides-beside.ensures.same))
 
-pub overflow_add-result-2 : goal.overflow_add-result-2
-overflow_add-result-2 c =
-    let start = c in
-    let s = start.args.s in
-    omega (arith, start.requires, hands_most (wager s.money.stake) s.hands (full (goal.at.overflow_add-result-2 start).Start) (2 * s.money.stake) (λ h. (wager_bounds s.money.stake h).1))
+pub overflow_add-result-else-s-eq0 : goal.overflow_add-result-else-s-eq0
+overflow_add-result-else-s-eq0 c =
+    let s = c.args.s in
+    omega (arith, c.requires, hands_most (wager s.money.stake) s.hands (full (goal.at.overflow_add-result-else-s-eq0 c).Start) (2 * s.money.stake) (λ h. (wager_bounds s.money.stake h).1))
 
-pub overflow_add-result-3 : goal.overflow_add-result-3
-overflow_add-result-3 c =
-    let start = c in
-    let s = start.args.s in
-    omega (arith, start.requires, hands_most (wager s.money.stake) s.hands (full (goal.at.overflow_add-result-3 start).Start) (2 * s.money.stake) (λ h. (wager_bounds s.money.stake h).1), c.all_sides-beside.ensures.small)
+pub overflow_add-result-else-s-eq0-2 : goal.overflow_add-result-else-s-eq0-2
+overflow_add-result-else-s-eq0-2 c =
+    let s = c.args.s in
+    omega (arith, c.requires, hands_most (wager s.money.stake) s.hands (full (goal.at.overflow_add-result-else-s-eq0-2 c).Start) (2 * s.money.stake) (λ h. (wager_bounds s.money.stake h).1), c.all_sides-beside.ensures.small)
 
-pub returns : goal.returns
+pub returns-else-s-eq0 : goal.returns-else-s-eq0
 unfolding laid
-returns c =
-    let start = c in
-    let s = start.args.s in
-    simp (no_hand s.hands (full (goal.at.returns start).Start), ne_eqb _ _ c.if-hands-eq0.false) (omega (arith, start.requires, c.all_sides-beside.ensures.same))
+returns-else-s-eq0 c =
+    let s = c.args.s in
+    simp (no_hand s.hands (full (goal.at.returns-else-s-eq0 c).Start), ne_eqb _ _ c.if-s-eq0.false) (omega (arith, c.requires, c.all_sides-beside.ensures.same))

@@ -1,4 +1,4 @@
--- Each part is its function's; with stakes and insurances of 32 bits all but the cut purse are far below the limit.
+-- The sums of a guest whose hands are known; with stakes and insurances of 32 bits all but the cut purse are far below the limit.
 use mathlib.Core.Path.{◌≡◌}
 use Prim.Native.Nat.{ℕ}
 use native.Mathlib.Omega.{arith}
@@ -20,11 +20,7 @@ within c =
     let full : length c.args.s.hands.places ≡ 4 = search rules in
     guest-within c.args.o c.args.s full (omega arith) (omega arith) (λ i. omega (arith, (below c i).fits))
 
-pub overflow_add-result : goal.overflow_add-result
-overflow_add-result c =
-    let few = within (goal.at.overflow_add-result c).Start in
-    omega (arith, few.cover, c.side_cover.ensures, c.cover.ensures)
-
 pub returns : goal.returns
 returns c =
-    let start = c in record { same = rw (c.laid.ensures, c.prizes.ensures, c.cover.ensures, c.side_cover.ensures, c.cut.ensures); small = rw (c.laid.ensures, c.prizes.ensures, c.cover.ensures, c.side_cover.ensures, c.cut.ensures) (within (goal.at.returns start).Start) }
+    let same : c.played_sums.result ≡ guest_sums c.args.o c.args.s = rw c.prizes.ensures at c.played_sums.ensures in
+    record { same = same; small = rw same (within (goal.at.returns c).Start) }

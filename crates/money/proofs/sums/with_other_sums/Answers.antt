@@ -9,12 +9,10 @@ use Rattle.money.proofs.sums.with_other_sums.Goals as goal
 
 pub returns-then-no_money : goal.returns-then-no_money
 returns-then-no_money c =
-    let start = c in
     let read = c.guest_money in
-    let both = passed_over start.args.o start.args.all (guest_at start.args.s start.args.p) read.result read.ensures (sym c.no_money.ensures ∙ c.if-no_money.true) in
+    let both = passed_over c.args.o c.args.all (guest_at c.args.s c.args.p) read.result read.ensures (sym c.no_money.ensures ∙ c.if-no_money.true) in
     record { same = both.0; small = both.1 }
 
-pub returns : goal.returns
-returns c =
-    let start = c in
-    let guest = c.guest_at in record { same = c.with_guest_sums.ensures.same ∙ ap (λ (x : Seat). plus_sums start.args.all (guest_sums start.args.o x)) guest.ensures; small = subst (λ (x : Seat). SumsFit 1 (guest_sums start.args.o x)) guest.ensures c.with_guest_sums.ensures.small }
+pub returns-else-no_money : goal.returns-else-no_money
+returns-else-no_money c =
+    let guest = c.guest_at in record { same = c.with_guest_sums.ensures.same ∙ ap (λ (x : Seat). plus_sums c.args.all (guest_sums c.args.o x)) guest.ensures; small = subst (λ (x : Seat). SumsFit 1 (guest_sums c.args.o x)) guest.ensures c.with_guest_sums.ensures.small }

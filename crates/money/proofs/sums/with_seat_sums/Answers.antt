@@ -15,15 +15,13 @@ with_guest_sums-seated-requires c = fits_in_lem 24 26 c.args.all (omega arith) c
 
 pub returns-then-nobody_beside : goal.returns-then-nobody_beside
 returns-then-nobody_beside c =
-    let start = c in
     let seated = c.with_guest_sums-seated in
-    let both = seated-added start.args.o start.args.s start.args.all seated.result (sym c.nobody_beside.ensures ∙ c.if-nobody_beside.true) (seated.ensures.same, seated.ensures.small) in
+    let both = seated-added c.args.o c.args.s c.args.all seated.result (sym c.nobody_beside.ensures ∙ c.if-nobody_beside.true) (seated.ensures.same, seated.ensures.small) in
     record { same = both.0; small = both.1 }
 
 pub with_other_sums-two-requires : goal.with_other_sums-two-requires
 with_other_sums-two-requires c =
-    let seated = c in
-    record { fit = fits_in_lem 25 26 seated.with_guest_sums-seated.result (omega arith) (seated-fits (goal.at.with_other_sums-two-requires seated).After-with_guest_sums-seated); position = omega arith }
+    record { fit = fits_in_lem 25 26 c.with_guest_sums-seated.result (omega arith) (seated-fits (goal.at.with_other_sums-two-requires c).After-with_guest_sums-seated); position = omega arith }
 
 pub with_other_sums-requires : goal.with_other_sums-requires
 with_other_sums-requires c =
@@ -33,6 +31,5 @@ pub returns : goal.returns
 returns c =
     let one = c.with_guest_sums-seated in
     let two = c.with_other_sums-two in
-    let start = c in
-    let both = seat-added start.args.o start.args.s start.args.all one.result two.result c.with_other_sums.result (one.ensures.same, one.ensures.small) (two.ensures.same, two.ensures.small) (c.with_other_sums.ensures.same, c.with_other_sums.ensures.small) in
+    let both = seat-added c.args.o c.args.s c.args.all one.result two.result c.with_other_sums.result (one.ensures.same, one.ensures.small) (two.ensures.same, two.ensures.small) (c.with_other_sums.ensures.same, c.with_other_sums.ensures.small) in
     record { same = both.0; small = both.1 }

@@ -1,10 +1,6 @@
--- Before each turn the table is whole, and each turn goes on to a later place.
-use Rattle.std.proofs.Common.{length, ◌-◌}
+-- Before each turn the table is whole.
 use Rattle.books.specs.Laws.{Whole}
 use Rattle.replay.proofs.rows.each.Given as goal
 
-abbrev pub invariant-loop-at : goal.invariant-loop-at
-invariant-loop-at g l = Whole l.t
-
-abbrev pub decreases-loop-at : goal.decreases-loop-at
-decreases-loop-at g l = length l.file - l.at
+abbrev pub invariant-loop-handed : goal.invariant-loop-handed
+invariant-loop-handed g l = (goal.iterator-loop-handed g).can_next l.handed-iterator × (goal.iterator-loop-handed g).is_finite l.handed-iterator × Whole l.t

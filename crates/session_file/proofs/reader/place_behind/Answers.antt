@@ -2,6 +2,7 @@
 use Prim.Native.Nat.{ℕ, ◌+◌, ◌*◌, ◌%◌}
 use mathlib.Core.Path.{◌≡◌, ap, ◌∙◌}
 use mathlib.Core.Bool.{true, false}
+use native.Mathlib.Omega.{arith}
 use borrow.Author.Tests.{eq-eqb, ne_eqb, le-leb, lt-leb}
 use lib.Dec.{eqb}
 use Rattle.file_spec.specs.CallBlock.{is_load_code}
@@ -9,15 +10,12 @@ use Rattle.file_spec.specs.Reader.{code_of, many_of, place_behind}
 use Rattle.file_block.proofs.Pieces.{code_kind_lem}
 use Rattle.session_file.proofs.reader.place_behind.Goals as goal
 
-pub returns-then-at-file : goal.returns-then-at-file
+pub returns-then-at-from : goal.returns-then-at-from
 unfolding place_behind
-returns-then-at-file c =
+returns-then-at-from c =
     let file = c.args.file.now in
     let at = c.args.at in
-    rw (le-leb (at % 512 + 10) (10 * many_of file at) c.if-at-file.true)
-
-pub call_place-requires : goal.call_place-requires
-call_place-requires c = tt
+    rw (le-leb (at % 512 + 10) (10 * many_of file at) (omega (arith, c.from.ensures, c.if-at-from.true)))
 
 pub returns-then-file-at-eq17 : goal.returns-then-file-at-eq17
 unfolding place_behind
@@ -25,10 +23,7 @@ returns-then-file-at-eq17 c =
     let file = c.args.file.now in
     let at = c.args.at in
     let load : is_load_code (code_of file at) ≡ true = ap (λ (k : ℕ). eqb k 17) (code_kind_lem file at) ∙ eq-eqb _ 17 c.if-file-at-eq17.true in
-    rw (lt-leb (at % 512 + 10) (10 * many_of file at) c.if-at-file.false, load) c.call_place.ensures
-
-pub call_place-requires-2 : goal.call_place-requires-2
-call_place-requires-2 c = tt
+    rw (lt-leb (at % 512 + 10) (10 * many_of file at) (omega (arith, c.from.ensures, c.if-at-from.false)), load) c.call_place.ensures
 
 pub returns : goal.returns
 unfolding place_behind
@@ -36,4 +31,4 @@ returns c =
     let file = c.args.file.now in
     let at = c.args.at in
     let load : is_load_code (code_of file at) ≡ false = ap (λ (k : ℕ). eqb k 17) (code_kind_lem file at) ∙ ne_eqb _ 17 c.if-file-at-eq17.false in
-    rw (lt-leb (at % 512 + 10) (10 * many_of file at) c.if-at-file.false, load) c.call_place-2.ensures
+    rw (lt-leb (at % 512 + 10) (10 * many_of file at) (omega (arith, c.from.ensures, c.if-at-from.false)), load) c.call_place-2.ensures

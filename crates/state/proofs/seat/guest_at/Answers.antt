@@ -6,5 +6,4 @@ use Rattle.state.proofs.seat.guest_at.Goals as goal
 
 pub returns : goal.returns
 returns c =
-    let start = c in
-    ap (with_money start.args.s) c.guest_money-money.ensures ∙ sym (guest-is start.args.s start.args.p)
+    ap (with_money c.args.s) c.guest_money.ensures ∙ sym (guest-is c.args.s c.args.p)

@@ -1,22 +1,34 @@
--- The tests are the definition's, in its order.
-use borrow.Author.Tests.{eq-eqb, ne_eqb}
+-- The four are compared with zeros in their order.
+use mathlib.Core.Path.{◌≡◌, refl}
+use mathlib.Core.Bool.{Bool, true, false, ◌&&◌}
+use mathlib.Core.List.{List, [], ◌∷◌}
+use Prim.Native.Nat.{ℕ}
+use native.Mathlib.Omega.{arith}
 use lib.Dec.{eqb}
-use lib.ListN.{get_or}
+use lib.ListN.{length, get_or}
+use lib.Pointwise.{pointwise}
+use borrow.Author.Rules.{rules}
 use Rattle.lists.specs.Below.{all_below}
-use Rattle.lists.proofs.Below.{all_but_last}
 use Rattle.state.proofs.seat.no_sides.Goals as goal
 
-pub returns-then-sides-eq0-3 : goal.returns-then-sides-eq0-3
-returns-then-sides-eq0-3 c = all_but_last (λ k. eqb (get_or c.args.sides k 0) 0) (eq-eqb _ _ c.if-sides-eq0.true) (eq-eqb _ _ c.if-sides-eq0-2.true) (eq-eqb _ _ c.if-sides-eq0-3.true)
+-- four tests, grouped from either end
+four : (a b c d : Bool) → a && (b && (c && (d && true))) ≡ a && b && c && d
+four false b c d = refl
+four true false c d = refl
+four true true false d = refl
+four true true true false = refl
+four true true true true = refl
 
-pub returns-else-sides-eq0-3 : goal.returns-else-sides-eq0-3
+four_zeros : (sides : List ℕ) → length sides ≡ 4 → pointwise eqb sides (0 ∷ 0 ∷ 0 ∷ 0 ∷ []) ≡ all_below (λ k. eqb (get_or sides k 0) 0) 4
 unfolding all_below
-returns-else-sides-eq0-3 c = simp (eq-eqb _ _ c.if-sides-eq0.true, eq-eqb _ _ c.if-sides-eq0-2.true, ne_eqb _ _ c.if-sides-eq0-3.false)
+four_zeros [] e = absurd (omega (arith, e))
+four_zeros (a ∷ []) e = absurd (omega (arith, e))
+four_zeros (a ∷ b ∷ []) e = absurd (omega (arith, e))
+four_zeros (a ∷ b ∷ c ∷ []) e = absurd (omega (arith, e))
+four_zeros (a ∷ b ∷ c ∷ d ∷ []) e = four (eqb a 0) (eqb b 0) (eqb c 0) (eqb d 0)
+four_zeros (a ∷ b ∷ c ∷ d ∷ more ∷ rest) e = absurd (omega (arith, e))
 
-pub returns-else-sides-eq0-2 : goal.returns-else-sides-eq0-2
-unfolding all_below
-returns-else-sides-eq0-2 c = simp (eq-eqb _ _ c.if-sides-eq0.true, ne_eqb _ _ c.if-sides-eq0-2.false)
-
-pub returns-else-sides-eq0 : goal.returns-else-sides-eq0
-unfolding all_below
-returns-else-sides-eq0 c = simp (ne_eqb _ _ c.if-sides-eq0.false)
+pub returns : goal.returns
+returns c =
+    let full : length c.args.sides ≡ 4 = search rules in
+    rw c.eq.ensures (four_zeros c.args.sides full)

@@ -1,51 +1,28 @@
--- Seat by seat: before each turn the number is that of the first i seats, at most three for each.
-use mathlib.Core.Path.{◌≡◌, refl, ◌∙◌, ap}
-use native.Mathlib.Omega.{arith}
-use native.Mathlib.Numerals.{add-one}
-use lib.ListN.{length}
-use lib.Seq.{take_all}
-use Rattle.lists.specs.Sum.{sum_of}
-use Rattle.lists.proofs.Sums.{sum-take}
-use Rattle.table.specs.Seat.{missing_seat}
+-- The seats are added up in their order; nine of at most three guests fit.
+use Rattle.std.proofs.Common.{◌≡◌, ◌<◌, ◌≤◌, Bool, cond, length, rules, arith}
+use Rattle.std.specs.List.{sum_by}
+use Rattle.std.proofs.iter.runs.Sources.{sums}
+use Rattle.lists.proofs.Chains.{sum_of-sum_by}
+use Rattle.lists.proofs.Picks.{cond_most}
+use Rattle.lists.proofs.Sums.{sum-most}
+use Rattle.table.specs.declared.Seat.{Seat}
+use Rattle.table.specs.Seat.{is_staked, guest_at}
 use Rattle.ways.specs.Number.{staked_of, staked_guests}
-use borrow.Author.Rules.{rules}
 use Rattle.ways.proofs.numbers.staked_guests.Goals as goal
 
-pub loop-i-init : goal.loop-i-init
-unfolding sum_of
-loop-i-init c = (omega arith, refl, omega arith)
+one : (b : Bool) → cond b 1 0 ≤ 1
+one b = cond_most b (omega arith) (omega arith)
 
-pub offset_bounds-seats-i : goal.offset_bounds-seats-i
-offset_bounds-seats-i c = omega arith
+at_most_three : (s : Seat) → staked_of s ≤ 3
+at_most_three s = omega (arith, one (is_staked (guest_at s 0)), one (is_staked (guest_at s 1)), one (is_staked (guest_at s 2)))
 
-pub bounds-seats-i : goal.bounds-seats-i
-bounds-seats-i c = omega arith
-
-pub overflow_add-all : goal.overflow_add-all
-overflow_add-all c = omega arith
-
-pub overflow_step-i : goal.overflow_step-i
-overflow_step-i c = omega arith
-
-pub loop-i-smaller : goal.loop-i-smaller
-loop-i-smaller c = omega arith
-
-pub loop-i-preserved : goal.loop-i-preserved
-loop-i-preserved c =
-    let at = c in
-    let start = at in
-    let seats = start.args.t.seats in
-    let i = at.loop-i.i in
-    let full : length seats ≡ 9 = search rules in (
-      omega arith,
-      rw add-one (omega (arith, c.staked_of-all.ensures.same, at.loop-i.invariant.1, sum-take staked_of seats i missing_seat (omega arith))),
-      omega arith,
-    )
+pub sum-requires-clause-fits : goal.sum-requires-clause-fits
+sum-requires-clause-fits c =
+    let seats = c.args.t.seats in
+    let full : length seats ≡ 9 = search rules in
+    let fits : sum_by staked_of seats < 18446744073709551616 = rw (← sum_of-sum_by) (omega (arith, sum-most staked_of 3 at_most_three seats)) in
+    search (rules, sums, fits)
 
 pub returns : goal.returns
 unfolding staked_guests
-returns c =
-    let start = c in
-    let seats = start.args.t.seats in
-    let full : length seats ≡ 9 = search rules in
-    c.loop-i.invariant.1 ∙ ap (sum_of staked_of) (take_all c.loop-i.i seats (omega arith))
+returns c = rw sum_of-sum_by (search (rules, sums))

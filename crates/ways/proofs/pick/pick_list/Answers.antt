@@ -18,13 +18,12 @@ overflow_sub-length c = omega arith
 
 pub first_decision-n-requires : goal.first_decision-n-requires
 first_decision-n-requires c =
-    let at = c in
-    let a = at.args in
-    let n = at.loop-length.length in
+    let a = c.args in
+    let n = c.loop-length.length in
     let now : 8 - n ≡ suc (7 - n) = omega arith in
-    let inside = subst (λ (k : ℕ). at.loop-length.rest < length (ways_from k a.at at.loop-length.table)) now at.loop-length.invariant.inside in
-    let waits = some_waits_lem (suc (7 - n)) a.at at.loop-length.table (omega arith) (λ e. c.if-close_number-eq0.false (c.close_number.ensures ∙ e)) in
-    record { whole = at.loop-length.invariant.whole; few = omega arith; waits = waits; inside = inside }
+    let inside = subst (λ (k : ℕ). c.loop-length.rest < length (ways_from k a.at c.loop-length.table)) now c.loop-length.invariant.inside in
+    let waits = some_waits_lem (suc (7 - n)) a.at c.loop-length.table (omega arith) (λ e. c.if-close_number-eq0.false (c.close_number.ensures ∙ e)) in
+    record { whole = c.loop-length.invariant.whole; few = omega arith; waits = waits; inside = inside }
 
 pub bounds-decisions-length : goal.bounds-decisions-length
 bounds-decisions-length c = omega arith
@@ -37,21 +36,18 @@ loop-length-smaller c = omega arith
 
 pub loop-length-preserved : goal.loop-length-preserved
 loop-length-preserved c =
-    let at = c in
-    let a = at.args in
-    one_picked a.t a.at a.place at.loop-length.table at.loop-length.rest at.loop-length.length at.loop-length.decisions at.loop-length.invariant (omega arith) c.first_decision-n.result
+    let a = c.args in
+    one_picked a.t a.at a.place c.loop-length.table c.loop-length.rest c.loop-length.length c.loop-length.decisions c.loop-length.invariant (omega arith) c.first_decision-n.result
     c.first_decision-n.ensures
 
 pub returns-after-loop-length : goal.returns-after-loop-length
 returns-after-loop-length c =
-    let at = c in
-    let a = at.args in
-    let done : 8 - at.loop-length.length ≡ 0 = omega (arith, at.loop-length.invariant.few) in
-    let inside = subst (λ (k : ℕ). at.loop-length.rest < length (ways_from k a.at at.loop-length.table)) done at.loop-length.invariant.inside in
-    all_picked a.t a.at a.place at.loop-length.table at.loop-length.rest at.loop-length.length at.loop-length.decisions at.loop-length.invariant (spent_ends a.at at.loop-length.table (omega arith))
+    let a = c.args in
+    let done : 8 - c.loop-length.length ≡ 0 = omega (arith, c.loop-length.invariant.few) in
+    let inside = subst (λ (k : ℕ). c.loop-length.rest < length (ways_from k a.at c.loop-length.table)) done c.loop-length.invariant.inside in
+    all_picked a.t a.at a.place c.loop-length.table c.loop-length.rest c.loop-length.length c.loop-length.decisions c.loop-length.invariant (spent_ends a.at c.loop-length.table (omega arith))
 
 pub returns-then-close_number-eq0 : goal.returns-then-close_number-eq0
 returns-then-close_number-eq0 c =
-    let at = c in
-    let a = at.args in
-    all_picked a.t a.at a.place at.loop-length.table at.loop-length.rest at.loop-length.length at.loop-length.decisions at.loop-length.invariant (sym c.close_number.ensures ∙ c.if-close_number-eq0.true)
+    let a = c.args in
+    all_picked a.t a.at a.place c.loop-length.table c.loop-length.rest c.loop-length.length c.loop-length.decisions c.loop-length.invariant (sym c.close_number.ensures ∙ c.if-close_number-eq0.true)

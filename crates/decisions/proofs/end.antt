@@ -1,2 +1,0 @@
--- The laws of the answer by the number.
-pub mod Laws

@@ -1,0 +1,31 @@
+-- The conditions are asked in the order of the list: those of every call of a guest first.
+use mathlib.Core.Path.{◌≡◌, refl, sym, ◌∙◌}
+use Rattle.call.specs.Refusal.{first}
+use Rattle.answer.proofs.conditions.Laws.{in_round-guest, refuses, guest-passes, guest-nine, guest_three}
+use Rattle.decisions_spec.specs.Insure.{insure_conditions}
+use Rattle.decisions.proofs.insure.check_insure.Goals as goal
+
+pub returns-in_err-check_guest : goal.returns-in_err-check_guest
+unfolding insure_conditions
+returns-in_err-check_guest c = refuses _ _ _ c.from_residual.ensures.1 (in_round-guest c.table-table.ensures.same c.table-table.ensures.whole _ c.is_dealt.ensures _ c.in_err-check_guest.ensures) _
+
+pub seat-requires : goal.seat-requires
+seat-requires c = guest-nine _ _ _ _ refl (in_round-guest c.table-table.ensures.same c.table-table.ensures.whole _ c.is_dealt.ensures _ c.in_ok-check_guest.ensures)
+
+pub guest_money-money-requires : goal.guest_money-money-requires
+guest_money-money-requires c = guest_three _ _ _ _ refl (in_round-guest c.table-table.ensures.same c.table-table.ensures.whole _ c.is_dealt.ensures _ c.in_ok-check_guest.ensures)
+
+pub returns : goal.returns
+unfolding insure_conditions first
+returns c =
+    (simp (
+      c.first_refusal.ensures,
+      c.is_ace.ensures,
+      c.up.ensures,
+      c.any_decided.ensures,
+      c.insurance_permitted-permitted.ensures,
+      c.guest_money-money.ensures,
+      c.seat.ensures,
+      c.table-table.ensures.same,
+    ))
+    ∙ sym (guest-passes _ _ _ _ refl (in_round-guest c.table-table.ensures.same c.table-table.ensures.whole _ c.is_dealt.ensures _ c.in_ok-check_guest.ensures) _)

@@ -1,0 +1,2 @@
+-- The words that programs write for calls.
+pub mod Names

@@ -1,0 +1,64 @@
+// How the programs write cards and sums.
+use cards::hand::{Hand, held};
+use cards::score::HandScore;
+use std::fmt;
+
+const RANKS: [char; 13] = [
+    'A', '2', '3', '4', '5', '6', '7', '8', '9', 'T', 'J', 'Q', 'K',
+];
+
+const SUITS: [char; 4] = ['a', 'b', 'c', 'd'];
+
+// A card by two letters, the first for its rank, the other for its suit.
+#[derive(Clone, Copy)]
+pub struct CardName(pub u8);
+
+impl fmt::Display for CardName {
+    fn fmt<W: fmt::Write>(&self, f: &mut fmt::Formatter<W>) -> fmt::Result {
+        let card = self.0 as usize;
+        write!(f, "{}{}", RANKS[card % 13], SUITS[card / 13 % 4])
+    }
+}
+
+// The cards of a hand, one behind the other.
+#[derive(Clone, Copy)]
+pub struct Cards(pub Hand);
+
+impl fmt::Display for Cards {
+    fn fmt<W: fmt::Write>(&self, f: &mut fmt::Formatter<W>) -> fmt::Result {
+        for card in &self.0.cards[..held(self.0)] {
+            write!(f, "{}", CardName(*card))?;
+        }
+        Ok(())
+    }
+}
+
+// A net, with a sign also where it is a gain.
+#[derive(Clone, Copy)]
+pub struct Net(pub i64);
+
+impl fmt::Display for Net {
+    fn fmt<W: fmt::Write>(&self, f: &mut fmt::Formatter<W>) -> fmt::Result {
+        let net = self.0;
+        if net > 0 {
+            write!(f, "+{net}")
+        } else {
+            write!(f, "{net}")
+        }
+    }
+}
+
+// A total, and the word soft where an ace counts eleven.
+#[derive(Clone, Copy)]
+pub struct Total(pub HandScore);
+
+impl fmt::Display for Total {
+    fn fmt<W: fmt::Write>(&self, f: &mut fmt::Formatter<W>) -> fmt::Result {
+        let HandScore { total, soft } = self.0;
+        if soft {
+            write!(f, "{total} soft")
+        } else {
+            write!(f, "{total}")
+        }
+    }
+}
