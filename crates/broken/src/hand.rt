@@ -1,5 +1,5 @@
 // Hands of any table value (docs/BROKEN.md, 4): 2 to 20 cards that could have been played, and an origin and an ending that fit them, their seat's
-// number of hands `many` and the up card `up`.
+// number of hands and the up card.
 ghost use Rattle.std.specs.Prelude.{◌≡◌, ◌<◌};
 ghost use Rattle.cards.specs.Hand.{cards_of};
 ghost use Rattle.cards.specs.Length.{could_be_played};
@@ -15,8 +15,8 @@ use payment::prize::prize;
 use payment::wager::wager;
 use rules::open_calls::{even_open, five_open};
 use rules::seat_hand::{
-    BY_DOUBLE, BY_EVEN, BY_FIVE, BY_STAND, BY_SURRENDER, DEALT, SPLIT, SPLIT_ACES, SeatHand,
-    SeatHands,
+    BY_DOUBLE, BY_EVEN, BY_FIVE, BY_STAND, BY_SURRENDER, DEALT, HandInSeat, SPLIT, SPLIT_ACES,
+    SeatHand, SeatHands,
 };
 
 // Of twelve cards or more, the low sum is above their number.
@@ -30,18 +30,19 @@ fn could_be_played(h: Hand) -> bool
 
 // A seat's only hand was dealt, any other comes from a split, of aces where its first card is one. It asks that there is a first card.
 #[tactic(auto, unfolding(table::specs::Broken::sound_origin))]
-fn sound_origin(many: u8, h: SeatHand) -> bool
-    requires { 0 < h.hand.count }
-    ensures { result ≡ sound_origin many (played_of h) }
+fn sound_origin(h: HandInSeat) -> bool
+    requires { 0 < h.hand.hand.count }
+    ensures { result ≡ sound_origin h.many (played_of h.hand) }
 {
+    let HandInSeat { many, hand, .. } = h;
     let origin = if many == 1 {
         DEALT
-    } else if is_ace(h.hand.cards[0]) {
+    } else if is_ace(hand.hand.cards[0]) {
         SPLIT_ACES
     } else {
         SPLIT
     };
-    h.origin == origin
+    hand.origin == origin
 }
 
 // A doubled hand has three cards, is not from split aces, and its first two permitted the double.
@@ -59,33 +60,35 @@ fn sound_double(o: Options, h: SeatHand) -> bool
 
 // A surrendered hand is its seat's only one, of two cards, against no ace.
 #[tactic(auto, unfolding(rules::specs::SeatHand::has_two_cards, table::specs::Broken::sound_surrender))]
-fn sound_surrender(up: u8, many: u8, h: SeatHand) -> bool
-    ensures { result ≡ sound_surrender up many (played_of h) }
+fn sound_surrender(h: HandInSeat) -> bool
+    ensures { result ≡ sound_surrender h.up h.many (played_of h.hand) }
 {
-    many == 1 && (h.hand.held_cards().len() == 2 && !is_ace(up))
+    h.many == 1 && (h.hand.hand.held_cards().len() == 2 && !is_ace(h.up))
 }
 
 // Even and five only where they are open; what is not ended by a decision, or by stand, fits every hand.
 #[tactic(auto, unfolding(table::specs::Broken::sound_ending))]
-fn sound_ending(o: Options, up: u8, many: u8, h: SeatHand) -> bool
-    ensures { result ≡ sound_ending o up many (played_of h) }
+fn sound_ending(o: Options, h: HandInSeat) -> bool
+    ensures { result ≡ sound_ending o h.up h.many (played_of h.hand) }
 {
-    match h.ended {
-        BY_DOUBLE => sound_double(o, h),
-        BY_SURRENDER => sound_surrender(up, many, h),
-        BY_EVEN => even_open(up, h),
-        BY_FIVE => five_open(o, up, h),
+    let HandInSeat { up, hand, .. } = h;
+    match hand.ended {
+        BY_DOUBLE => sound_double(o, hand),
+        BY_SURRENDER => sound_surrender(h),
+        BY_EVEN => even_open(up, hand),
+        BY_FIVE => five_open(o, up, hand),
         ended => ended <= BY_STAND,
     }
 }
 
 #[tactic(auto, unfolding(table::specs::Broken::sound_hand))]
-fn sound_hand(o: Options, up: u8, many: u8, h: SeatHand) -> bool
-    ensures { result ≡ sound_hand o up many h }
+fn sound_hand(o: Options, h: HandInSeat) -> bool
+    ensures { result ≡ sound_hand o h.up h.many h.hand }
 {
-    2 <= h.hand.count
-        && (h.hand.count <= 20
-            && (could_be_played(h.hand) && (sound_origin(many, h) && sound_ending(o, up, many, h))))
+    let cards = h.hand.hand;
+    2 <= cards.count
+        && (cards.count <= 20
+            && (could_be_played(cards) && (sound_origin(h) && sound_ending(o, h))))
 }
 
 // What a look at a seat's hands gives: whether all in use are sound, and their wagers and prizes. A flag beside the sums and no Option: a guest's sums are made of these
@@ -105,7 +108,12 @@ pub(crate) fn looked_at(o: Options, up: u8, stake: u32, s: SeatHands) -> Looked
     let mut wagers = 0;
     let mut prizes = 0;
     for h in s.in_use() {
-        sound = sound & sound_hand(o, up, s.many, *h);
+        let in_seat = HandInSeat {
+            up,
+            many: s.many as usize,
+            hand: *h,
+        };
+        sound = sound & sound_hand(o, in_seat);
         wagers += wager(stake, *h);
         prizes += prize(o, stake, *h);
     }

@@ -6,8 +6,7 @@ ghost use Rattle.dealer_screen.specs.Aids.Held.{rows_of, with_row, with_rows, wa
 use cards::hand::{Hand, empty_hand};
 use cards::score::hand_score;
 use options::Options;
-use rules::seat_hand::{SeatHand, used};
-use rules::waits::waits;
+use rules::seat_hand::{HandInSeat, SeatHand, used};
 use state::round::up;
 use table::whole::Whole;
 use table::{Seat, Table};
@@ -76,10 +75,10 @@ fn with_row(rows: Rows, r: Row) -> Rows
 
 // Whether the hand is one of those that are gathered: that wait, or that do not.
 // `waiting` is a value that the definition takes as well: the rows are gathered by two walks of one kind.
-fn wanted(waiting: bool, o: Options, card: u8, many: usize, h: SeatHand) -> bool
-    ensures { result ≡ wanted_by waiting o card many h }
+fn wanted(waiting: bool, o: Options, h: HandInSeat) -> bool
+    ensures { result ≡ wanted_by waiting o h.up h.many h.hand }
 {
-    let w = waits(o, card, many, h);
+    let w = h.waits(o);
     if waiting { w } else { !w }
 }
 
@@ -92,7 +91,12 @@ fn seat_rows(rows: Rows, waiting: bool, o: Options, card: u8, seat: usize, s: Se
     let many = used(s.hands);
     let mut next = rows;
     for (place, h) in s.hands.in_use().iter().enumerate() {
-        if wanted(waiting, o, card, many, *h) {
+        let in_seat = HandInSeat {
+            up: card,
+            many,
+            hand: *h,
+        };
+        if wanted(waiting, o, in_seat) {
             next = with_row(next, hand_row(seat, place, *h));
         }
     }

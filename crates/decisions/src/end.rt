@@ -16,7 +16,7 @@ pub(crate) fn ended(t: &Whole, at: At, code: u8) -> Moved
     ensures { moved_table t.now at.seat result ≡ end_effect code t.now at.seat }
 {
     let turn = hand_in_turn(t, at);
-    let mut hand = turn.hand;
+    let mut hand = turn.in_seat.hand;
     hand.ended = code;
     seat_moved(t.table(), with_place(*t.seat(at.seat), turn.place, hand))
 }

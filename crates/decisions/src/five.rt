@@ -10,7 +10,6 @@ use crate::turn::{check_turn, hand_in_turn};
 use answer::moved::Moved;
 use call::At;
 use call::refusal::{Refusal, first_refusal};
-use rules::leaving::permits_five;
 use rules::seat_hand::BY_FIVE;
 use table::whole::Whole;
 
@@ -20,7 +19,7 @@ fn check_five(t: &Whole, at: At) -> Result<(), Refusal>
 {
     check_turn(t, at)?;
     let turn = hand_in_turn(t, at);
-    let permitted = permits_five(t.table().options, turn.up, turn.many, turn.hand);
+    let permitted = turn.in_seat.permits_five(t.table().options);
     first_refusal(&[(Refusal::Barred, !permitted)])
 }
 

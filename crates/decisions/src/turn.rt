@@ -13,7 +13,7 @@ use answer::conditions::check_guest;
 use call::At;
 use call::refusal::{Refusal, first_refusal};
 use options::Options;
-use rules::seat_hand::{SeatHand, used};
+use rules::seat_hand::{HandInSeat, SeatHand, used};
 use rules::turn::waiting_place;
 use state::round::{is_dealt, up};
 use state::seat::{decider, guest_money};
@@ -43,42 +43,42 @@ pub fn check_turn(t: &Whole, at: At) -> Result<(), Refusal>
     ])
 }
 
-// A hand whose turn it is, with what the rules ask of it: the up card, its seat's number of hands, and its place among them.
+// A hand whose turn it is, as the rules are asked of it, and its place among those of its seat.
 #[derive(Clone, Copy)]
 pub struct HandInTurn {
-    pub up: u8,
-    pub many: usize,
     pub place: usize,
-    pub hand: SeatHand,
+    pub in_seat: HandInSeat,
 }
 
 // The first waiting hand of a seat that has one.
 pub fn waiting_hand(o: Options, up: u8, s: Seat) -> HandInTurn
     requires { seat_waits o up (hands_of s) ≡ true }
-    ensures up { result.up ≡ up }
-    ensures many { result.many ≡ length (hands_of s) }
+    ensures up { result.in_seat.up ≡ up }
+    ensures many { result.in_seat.many ≡ length (hands_of s) }
     ensures place { result.place ≡ waiting_place o up (hands_of s) }
     ensures four { result.place < 4 }
-    ensures hand { result.hand ≡ place_of s (waiting_place o up (hands_of s)) }
+    ensures hand { result.in_seat.hand ≡ place_of s (waiting_place o up (hands_of s)) }
 {
     let hands = s.hands;
     let place = waiting_place(o, up, hands);
     HandInTurn {
-        up,
-        many: used(hands),
         place,
-        hand: hands.places[place],
+        in_seat: HandInSeat {
+            up,
+            many: used(hands),
+            hand: hands.places[place],
+        },
     }
 }
 
 // That of the seat whose turn has come.
 pub fn hand_in_turn(t: &Whole, at: At) -> HandInTurn
     requires { InTurn t.now at.seat }
-    ensures up { result.up ≡ up_of t.now }
-    ensures many { result.many ≡ length (hands_of (seat_at t.now at.seat)) }
+    ensures up { result.in_seat.up ≡ up_of t.now }
+    ensures many { result.in_seat.many ≡ length (hands_of (seat_at t.now at.seat)) }
     ensures place { result.place ≡ waiting_place_of t.now at.seat }
     ensures four { result.place < 4 }
-    ensures hand { result.hand ≡ waiting_hand_of t.now at.seat }
+    ensures hand { result.in_seat.hand ≡ waiting_hand_of t.now at.seat }
 {
     let s = *t.seat(at.seat);
     let t = t.table();

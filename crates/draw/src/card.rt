@@ -96,7 +96,7 @@ pub(crate) fn with_next_card(t: &Whole, at: At, times: u64, code: u8) -> Moved
     let table = t.table();
     let o = table.options;
     let next = card_ahead(&table.shoe.order, table.shoe.drawn, 0);
-    let h = grown(turn.hand, next, code);
+    let h = grown(turn.in_seat.hand, next, code);
     let won = all_won(o, s, h);
     Moved {
         tray: table.tray - won,

@@ -11,7 +11,6 @@ use answer::moved::Moved;
 use call::At;
 use call::refusal::{Refusal, first_refusal};
 use decisions::turn::{check_turn, hand_in_turn};
-use rules::permits::permits_double;
 use rules::seat_hand::BY_DOUBLE;
 use state::round::cards_left;
 use table::whole::Whole;
@@ -24,7 +23,7 @@ fn check_double(t: &Whole, at: At) -> Result<(), Refusal>
     let table = t.table();
     check_turn(t, at)?;
     let turn = hand_in_turn(t, at);
-    let permitted = permits_double(table.options, turn.up, turn.many, turn.hand);
+    let permitted = turn.in_seat.permits_double(table.options);
     first_refusal(&[
         (Refusal::Barred, !permitted),
         (Refusal::ShortPurse, purse_short(*t.seat(at.seat))),

@@ -133,7 +133,7 @@ fn split_moved(t: &Whole, at: At) -> Moved
     let second = card_ahead(&table.shoe.order, table.shoe.drawn, 1);
     Moved {
         tray: table.tray,
-        seat: split_seat(s, turn.place, turn.hand, first, second),
+        seat: split_seat(s, turn.place, turn.in_seat.hand, first, second),
         drawn: table.shoe.drawn + 2,
         hand: turn.place,
     }
@@ -147,10 +147,10 @@ fn check_split(t: &Whole, at: At) -> Result<(), Refusal>
     let turn = hand_in_turn(t, at);
     let table = t.table();
     first_refusal(&[
-        (Refusal::NoPair, !is_pair(turn.hand.hand)),
+        (Refusal::NoPair, !is_pair(turn.in_seat.hand.hand)),
         (
             Refusal::HandsUsedUp,
-            usize::from(table.options.hands) <= turn.many,
+            usize::from(table.options.hands) <= turn.in_seat.many,
         ),
         (Refusal::ShortPurse, purse_short(*t.seat(at.seat))),
         (Refusal::NoCards, cards_left(*table) < 2),

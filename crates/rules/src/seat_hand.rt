@@ -41,6 +41,14 @@ pub struct SeatHands {
     pub many: u8,
 }
 
+// A hand as the rules are asked of it: against the up card, in a seat of `many` hands. The bank's hand is no part of it.
+#[derive(Clone, Copy)]
+pub struct HandInSeat {
+    pub up: u8,
+    pub many: usize,
+    pub hand: SeatHand,
+}
+
 impl SeatHands {
     // The hands in use by place, without what stands in the places behind them.
     pub fn in_use(&self) -> &[SeatHand]

@@ -3,8 +3,7 @@ ghost use Rattle.std.specs.Prelude.{◌≡◌};
 ghost use Rattle.rules.specs.SeatHand.{hands_of};
 ghost use Rattle.rules.specs.Turn.{seat_waits, waiting_place};
 
-use crate::seat_hand::{SeatHands, used};
-use crate::waits::waits;
+use crate::seat_hand::{HandInSeat, SeatHands, used};
 use options::Options;
 
 // The place of the first waiting hand, or the number of the seat's hands where none waits.
@@ -14,7 +13,12 @@ pub fn waiting_place(o: Options, up: u8, s: SeatHands) -> usize
     let n = used(s);
     s.in_use()
         .iter()
-        .position(|h| waits(o, up, n, *h))
+        .position(|h| HandInSeat {
+            up,
+            many: n,
+            hand: *h,
+        }
+        .waits(o))
         .unwrap_or(n)
 }
 
@@ -23,5 +27,10 @@ pub fn seat_waits(o: Options, up: u8, s: SeatHands) -> bool
     ensures { result ≡ seat_waits o up (hands_of s) }
 {
     let n = used(s);
-    s.in_use().iter().any(|h| waits(o, up, n, *h))
+    s.in_use().iter().any(|h| HandInSeat {
+        up,
+        many: n,
+        hand: *h,
+    }
+    .waits(o))
 }

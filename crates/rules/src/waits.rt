@@ -1,11 +1,11 @@
-// Which hand waits (document 01, "The seventeen calls"), in a seat of so many hands against the up card.
+// Which hand waits (document 01, "The seventeen calls").
 ghost use Rattle.std.specs.Prelude.{◌≡◌};
 ghost use Rattle.cards.specs.Hand.{cards_of};
 ghost use Rattle.rules.specs.SeatHand.{played_of};
 ghost use Rattle.rules.specs.Waits.{is_two_aces, aces_wait, cards_wait, waits as waits_by};
 
 use crate::open_calls::{even_open, five_open};
-use crate::seat_hand::{NOT_ENDED, SPLIT_ACES, SeatHand};
+use crate::seat_hand::{HandInSeat, NOT_ENDED, SPLIT_ACES, SeatHand};
 use cards::card::is_ace;
 use cards::hand::Hand;
 use cards::total::total;
@@ -37,16 +37,18 @@ fn cards_wait(o: Options, up: u8, h: SeatHand) -> bool
     total(h.hand) < 21 || (even_open(up, h) || five_open(o, up, h))
 }
 
-// Whether the hand waits, in a seat of `many` hands.
-#[tactic(auto, unfolding(crate::specs::Waits::waits))]
-pub fn waits(o: Options, up: u8, many: usize, h: SeatHand) -> bool
-    ensures { result ≡ waits_by o up many (played_of h) }
-{
-    if h.ended != NOT_ENDED {
-        false
-    } else if h.origin == SPLIT_ACES {
-        aces_wait(o, many, h)
-    } else {
-        cards_wait(o, up, h)
+impl HandInSeat {
+    // Whether the hand waits.
+    #[tactic(auto, unfolding(crate::specs::Waits::waits))]
+    pub fn waits(self, o: Options) -> bool
+        ensures { result ≡ waits_by o self.up self.many (played_of self.hand) }
+    {
+        if self.hand.ended != NOT_ENDED {
+            false
+        } else if self.hand.origin == SPLIT_ACES {
+            aces_wait(o, self.many, self.hand)
+        } else {
+            cards_wait(o, self.up, self.hand)
+        }
     }
 }

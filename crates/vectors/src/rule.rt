@@ -11,24 +11,21 @@ use payment::pay::Pay;
 use payment::prize::prize;
 use payment::side_pay::side_pay;
 use rules::drew::seat_drew;
-use rules::leaving::{permits_even, permits_five, permits_surrender};
-use rules::permits::{permits_double, permits_draw, permits_split, permits_stand};
-use rules::seat_hand::{DEALT, SeatHand};
+use rules::seat_hand::{DEALT, HandInSeat, SeatHand};
 use rules::turn::{seat_waits, waiting_place};
-use rules::waits::waits;
 use script::digit;
 
 // Whether the rules permit a decision; U asks for a surrender that is not too late, any other letter for one that is.
-fn permits(rule: u8, o: Options, up: u8, many: usize, h: SeatHand) -> bool {
+fn permits(rule: u8, o: Options, h: HandInSeat) -> bool {
     match rule {
-        b'S' => permits_stand(o, up, many, h),
-        b'D' => permits_draw(o, up, many, h),
-        b'X' => permits_double(o, up, many, h),
-        b'P' => permits_split(o, up, many, h),
-        b'E' => permits_even(o, up, many, h),
-        b'F' => permits_five(o, up, many, h),
-        b'U' => permits_surrender(o, up, false, many, h),
-        _ => permits_surrender(o, up, true, many, h),
+        b'S' => h.permits_stand(o),
+        b'D' => h.permits_draw(o),
+        b'X' => h.permits_double(o),
+        b'P' => h.permits_split(o),
+        b'E' => h.permits_even(o),
+        b'F' => h.permits_five(o),
+        b'U' => h.permits_surrender(o, false),
+        _ => h.permits_surrender(o, true),
     }
 }
 
@@ -44,13 +41,17 @@ pub(crate) fn answer(example: Example<'_>) -> Option<Answered> {
     let rule = example.rule();
     let o = example.house();
     let up = example.up();
-    let many = usize::from(example.many());
     let h = example.hand();
+    let in_seat = HandInSeat {
+        up,
+        many: usize::from(example.many()),
+        hand: h,
+    };
     let bank = example.bank();
     let answered = match rule {
-        b'A'..=b'Z' => Answered::Whether(permits(rule, o, up, many, h)),
+        b'A'..=b'Z' => Answered::Whether(permits(rule, o, in_seat)),
         b's' => Answered::Score(hand_score(h.hand)),
-        b'w' => Answered::Whether(waits(o, up, many, h)),
+        b'w' => Answered::Whether(in_seat.waits(o)),
         b'n' => Answered::Number(waiting_place(o, up, example.seat()) as u64),
         b'a' => Answered::Whether(seat_waits(o, up, example.seat())),
         b'r' => Answered::Whether(seat_drew(example.seat())),
