@@ -3,6 +3,8 @@
 (function (root) {
   'use strict';
 
+  const Lower = typeof module !== 'undefined' ? require('./lower.js') : root.Lower;
+
   // ---- types: how many bytes, at which alignment, and how they are read
 
   const whole = (size, read) => ({ size, align: size, read });
@@ -91,8 +93,7 @@
 
   // From the bytes of the module. The functions take a table as the bytes that an earlier one gave.
   async function start(module) {
-    const { instance } = await WebAssembly.instantiate(module, {});
-    return over(instance.exports);
+    return over(await Lower.start(module));
   }
 
   function over(wasm) {

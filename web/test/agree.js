@@ -3,10 +3,11 @@
 //   agree SEED CALLS | node web/test/agree.js MODULE SEED CALLS
 'use strict';
 const fs = require('fs');
+const Lower = require('../lower.js');
 const { types: T, LINES } = require('../engine.js');
 
 const [module_, seedWord, callsWord] = process.argv.slice(2);
-const wasm = new WebAssembly.Instance(new WebAssembly.Module(fs.readFileSync(module_)), {}).exports;
+const wasm = Lower.startNow(fs.readFileSync(module_));
 
 // ---- what comes in
 
