@@ -1,9 +1,9 @@
 // One session of the workload, played and written as its file.
-use call::pay_line::LINES;
+use answer::reply::Reply;
 use cashier::opening::{empty_table, opening};
-use engine::step;
 use file_block::block::Block;
 use file_writer::writer::Writer;
+use stage::pay_lines::PayLines;
 use std::slice;
 use table::Table;
 use workload::house::{cards_of, options_of, order_of};
@@ -64,19 +64,12 @@ fn is_over(s: Session) -> bool {
 }
 
 // One call, lent an order that only a load reads: where it is accepted it is written.
-fn told(
-    s: Session,
-    file: &mut [u8; ROOM],
-    names: &mut [u32; LINES],
-    nets: &mut [i64; LINES],
-) -> Session {
+fn told(s: Session, file: &mut [u8; ROOM], lines: &mut PayLines) -> Session {
     let plan = s.plan;
     let call = chosen(plan);
     let cards = order_of(plan.decks, plan.seed);
     let many = cards_of(plan.decks);
-    let reply = step(s.table, call, &cards[..many], names, nets);
-    let answer = reply.answer;
-    let table = reply.table;
+    let Reply { answer, table } = lines.step(s.table, call, &cards[..many]);
     let mut next = s;
     next.table = table;
     next.plan = after(plan, answer.number, table);
@@ -101,12 +94,11 @@ fn finished(s: Session, file: &mut [u8; ROOM]) -> Session {
 
 // The whole session. Once it is over no call changes it; the count only bounds the loop.
 pub(crate) fn written_session(file: &mut [u8; ROOM]) -> Session {
-    let mut names = [0; LINES];
-    let mut nets = [0; LINES];
+    let mut lines = PayLines::new();
     let mut s = begun(file);
     for _ in 0..MOST {
         if !is_over(s) {
-            s = told(s, file, &mut names, &mut nets);
+            s = told(s, file, &mut lines);
         }
     }
     finished(s, file)

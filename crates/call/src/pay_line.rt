@@ -6,7 +6,7 @@ ghost use Rattle.call.specs.PayLine.{line_name, line_seat, line_position, line_p
 // As many places as there can be lines: 27 guests have at most four hands, an insurance and four side stakes each.
 pub const LINES: usize = 243;
 
-// A line is for a hand, for an insurance, or for a side stake of kind k, which is 1 + k.
+// A line is for a hand, for an insurance, or for a side stake of kind k, which is 1 + k. A byte and no enum: C reads it out of a name, and any byte has its answer.
 pub const HAND: u8 = 0;
 
 pub const INSURANCE: u8 = 1;
@@ -15,29 +15,33 @@ pub const INSURANCE: u8 = 1;
 pub fn line_name(seat: u8, position: u8, place: u8, kind: u8) -> u32
     ensures { result ≡ line_name seat position place kind }
 {
-    (seat as u32) + 256 * (place as u32) + 65536 * (kind as u32) + 16777216 * (position as u32)
+    u32::from_le_bytes([seat, place, kind, position])
 }
 
 pub fn line_seat(name: u32) -> u8
     ensures { result ≡ line_seat name }
 {
-    (name % 256) as u8
+    let [seat, ..] = name.to_le_bytes();
+    seat
 }
 
 pub fn line_position(name: u32) -> u8
     ensures { result ≡ line_position name }
 {
-    (name / 16777216 % 256) as u8
+    let [.., position] = name.to_le_bytes();
+    position
 }
 
 pub fn line_place(name: u32) -> u8
     ensures { result ≡ line_place name }
 {
-    (name / 256 % 256) as u8
+    let [_, place, ..] = name.to_le_bytes();
+    place
 }
 
 pub fn line_kind(name: u32) -> u8
     ensures { result ≡ line_kind name }
 {
-    (name / 65536 % 256) as u8
+    let [_, _, kind, _] = name.to_le_bytes();
+    kind
 }

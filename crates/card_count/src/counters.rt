@@ -1,5 +1,5 @@
 // Cards counted by byte value, in one pass: 256 counters, so that any byte is an index.
-ghost use Rattle.std.specs.Prelude.{◌≡◌, ◌*◌, ◌≤◌, eqb, length, get_or, take};
+ghost use Rattle.std.specs.Prelude.{◌≡◌, eqb, length, get_or};
 ghost use Rattle.lists.specs.Below.{all_below};
 ghost use Rattle.card_count.specs.Aids.Counters.{counted, counted_all, Room};
 
@@ -12,40 +12,30 @@ fn count_one(of: &mut [u16; 256], card: u8)
     of[at] = of[at] + 1;
 }
 
-// Four cards in each turn, and their index counted here: the library cuts no lent slice into fours. With one card in each turn the bench takes 24,234 instructions a
-// call in place of 24,124.
-fn count_fours(of: &mut [u16; 256], cards: &[u8], fours: usize)
-    requires { (Room of.old (length cards.now)) × (4 * fours ≤ length cards.now) }
-    ensures { of.new ≡ counted_all of.old (take (4 * fours) cards.now) }
+// Four cards more, lent where they lie: over a copy of them the bench takes 12,475 instructions a call in place of 12,289.
+fn count_four(of: &mut [u16; 256], four: &[u8; 4])
+    requires { Room of.old 4 }
+    ensures { of.new ≡ counted_all of.old four.now }
 {
-    for k in 0usize..fours {
-        let i = 4 * k;
-        count_one(of, cards[i]);
-        count_one(of, cards[i + 1]);
-        count_one(of, cards[i + 2]);
-        count_one(of, cards[i + 3]);
-    }
+    let [first, second, third, fourth] = *four;
+    count_one(of, first);
+    count_one(of, second);
+    count_one(of, third);
+    count_one(of, fourth);
 }
 
-// One card in each turn.
-fn count_each(of: &mut [u16; 256], cards: &[u8])
-    requires { Room of.old (length cards.now) }
-    ensures { of.new ≡ counted_all of.old cards.now }
-{
-    for card in cards {
-        count_one(of, *card);
-    }
-}
-
-// Each card adds one to the counter of its byte: four at a time, then those left over.
+// Each card adds one to the counter of its byte: four in each turn, which costs less than one, then those left over.
 pub fn count(of: &mut [u16; 256], cards: &[u8])
     requires { Room of.old (length cards.now) }
     ensures { of.new ≡ counted_all of.old cards.now }
 {
-    let fours = cards.len() / 4;
-    let done = 4 * fours;
-    count_fours(of, cards, fours);
-    count_each(of, &cards[done..]);
+    let (fours, rest) = cards.as_chunks::<4>();
+    for four in fours {
+        count_four(of, four);
+    }
+    for card in rest {
+        count_one(of, *card);
+    }
 }
 
 // Whether each of the 52 faces was counted so many times. There is no branch, so that the compiler tests several at a time.

@@ -68,6 +68,7 @@ fn closed(t: Table, bank: Hand, score: Score) -> Table
 pub struct Settled {
     pub bank: Hand,
     pub scores: Scores,
+    // A number beside the lent arrays and no Vec: C lends them and reads an answer, and a step takes no memory.
     pub lines: usize,
     pub table: Table,
 }

@@ -78,7 +78,8 @@ fn insurance_lines(
     at + 1
 }
 
-// A line for a side stake of that kind, if there is one.
+// A line for a side stake of that kind, if there is one. The kind is a byte, as C reads it in the name: any byte has its answer. `split` is a fact of the hands,
+// worked out once for the four kinds.
 fn side_line(
     names: &mut [u32; LINES],
     nets: &mut [i64; LINES],

@@ -21,6 +21,7 @@ use table::whole::Whole;
 pub struct Screen {
     pub seats: [SeatLights; 9],
     pub rows: [Row; 6],
+    // An array with its number and no Vec: a screen is of one size, and C reads it as it lies.
     pub shown: usize,
     pub beyond: usize,
 }
@@ -29,12 +30,12 @@ pub struct Screen {
 fn made(seats: [SeatLights; 9], rows: Rows) -> Screen
     ensures { result ≡ held_screen seats rows }
 {
-    let each = rows.each;
+    let Rows { each, count } = rows;
     Screen {
         seats,
         rows: each,
-        shown: rows.count.min(6),
-        beyond: rows.count.saturating_sub(6),
+        shown: count.min(6),
+        beyond: count.saturating_sub(6),
     }
 }
 

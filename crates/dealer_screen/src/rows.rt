@@ -25,6 +25,7 @@ pub struct Row {
 #[derive(Clone, Copy)]
 pub(crate) struct Rows {
     pub each: [Row; 6],
+    // An array with its number, as in the screen that it becomes.
     pub count: usize,
 }
 

@@ -113,7 +113,7 @@ pub struct Written {
     pub writer: Writer,
 }
 
-// What it gives at the end: one block or none.
+// What it gives at the end: one block or none. C reads it too: so a number of blocks and no Option.
 #[repr(C)]
 #[derive(Clone, Copy)]
 pub struct Last {

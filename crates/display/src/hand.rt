@@ -17,6 +17,7 @@ pub struct HandShown {
     pub total: u8,
     pub soft: bool,
     pub wager: u64,
+    // Bytes and no enum, as they stand in the table: C reads them, and any byte is shown as it is.
     pub origin: u8,
     pub ended: u8,
 }

@@ -8,7 +8,7 @@ use options::Options;
 use rules::seat_hand::used;
 use state::empty::empty_seat;
 use state::seat::{guest_at, seat_at};
-use table::{Seat, Table};
+use table::{Money, Seat, Table};
 
 // The purse, the stake, the insurance and the side stakes by kind; the layout money and the prizes in this round; how many hands.
 #[repr(C)]
@@ -26,11 +26,16 @@ pub struct SeatShown {
 fn seat_values(o: Options, s: Seat) -> SeatShown
     ensures { result ≡ seat_values o s }
 {
-    let sides = s.money.sides;
+    let Money {
+        purse,
+        stake,
+        insurance,
+        sides,
+    } = s.money;
     SeatShown {
-        purse: s.money.purse,
-        stake: s.money.stake,
-        insurance: s.money.insurance,
+        purse,
+        stake,
+        insurance,
         sides,
         layout: laid(s),
         prizes: prizes(o, s),

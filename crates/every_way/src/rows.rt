@@ -16,8 +16,9 @@ fn take<W: Write>(out: &mut W, stage: &mut Stage, row: Row<'_>) -> io::Result<()
             lines::counted_ways(out, stage.table)?;
         }
         b'o' => stage.take_order(row),
+        // A refused opening is not written; it leaves the empty table.
         b'O' => {
-            stage.open(row.house());
+            let _ = stage.open(row.house());
         }
         letter => {
             let answer = stage.play(call_of(letter, row.at(), row.amount()));

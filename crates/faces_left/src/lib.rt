@@ -3,9 +3,8 @@
 
 mod counts;
 
-ghost use Rattle.std.specs.Prelude.{◌≡◌, true, false, replicate};
+ghost use Rattle.std.specs.Prelude.{◌≡◌, true, replicate};
 ghost use Rattle.call.specs.Refusal.{number_of};
-ghost use Rattle.table.specs.Broken.{broken as is_broken};
 ghost use Rattle.table.specs.Table.{is_dealt};
 ghost use Rattle.faces_left.specs.FacesLeft.{unseen, counts_below, make_faces, faces_left};
 
@@ -14,6 +13,7 @@ use broken::broken;
 use call::refusal::Refusal;
 use state::round::{is_dealt, up};
 use table::Table;
+use table::whole::Whole;
 
 // The number, 0 where it is accepted; the up card; and how often each face is left. A number and no Result: the struct crosses the C interface.
 #[repr(C)]
@@ -35,10 +35,11 @@ fn refused(why: Refusal) -> FacesLeft
 }
 
 // The bank's cards behind the up card lie face down: they count as left, as those of the shoe do.
-fn unseen_counts(t: Table) -> [u8; 52]
-    requires { (is_broken t ≡ false) × (is_dealt t ≡ true) }
-    ensures { result ≡ counts_below (unseen t) 52 }
+fn unseen_counts(t: &Whole) -> [u8; 52]
+    requires { is_dealt t.now ≡ true }
+    ensures { result ≡ counts_below (unseen t.now) 52 }
 {
+    let t = t.table();
     let all = 52 * (t.options.decks as usize);
     counted(&t.shoe.order[t.shoe.drawn..all], &t.bank.held_cards()[1..])
 }
@@ -54,7 +55,7 @@ pub fn faces_left(t: Table) -> FacesLeft
     if !is_dealt(t) {
         return refused(Refusal::NoRound);
     }
-    let left = unseen_counts(t);
+    let left = unseen_counts(&Whole::new(t));
     FacesLeft {
         number: 0,
         up: up(t),

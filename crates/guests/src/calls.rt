@@ -3,6 +3,7 @@ use call::{At, Call};
 use host_spec::HostCall;
 use stage::calls::{call_name, call_of};
 
+// Letters stay bytes, without an enum: a script is a text file, and every byte of it has its answer.
 // a arrives with the card that the amount names, l leaves with it; z and y are the same for the largest number of 64 bits, a card like any other.
 pub(crate) fn host_call(letter: u8, at: At, amount: u64) -> HostCall {
     match letter {

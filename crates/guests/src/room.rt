@@ -1,6 +1,7 @@
 // What is kept from row to row: the hosted table, and the stage for orders, openings and pay lines. Rows may also put a card or a tally there as no call does.
 use answer::reply::Answer;
 use call::At;
+use call::refusal::Refusal;
 use host::outcome::HostReply;
 use host::{host_step, without_cards};
 use host_spec::{GuestCard, HostCall, Hosted, Tally};
@@ -22,11 +23,11 @@ impl Room {
         }
     }
 
-    // An opening, and its number; the table then has no card.
-    pub(crate) fn open(&mut self, row: Row<'_>) -> u8 {
-        let number = self.stage.open(row.house());
+    // An opening; the table then has no card.
+    pub(crate) fn open(&mut self, row: Row<'_>) -> Result<(), Refusal> {
+        let opened = self.stage.open(row.house());
         self.hosted = without_cards(self.stage.table);
-        number
+        opened
     }
 
     // A call, with the order that was lent last.

@@ -3,6 +3,7 @@ use crate::calls::{host_call, host_call_name};
 use crate::lines;
 use crate::room::Room;
 use stage::row::Row;
+use stage::shown::opening_number;
 use std::io;
 use std::io::Write;
 
@@ -22,7 +23,7 @@ fn take<W: Write>(out: &mut W, room: &mut Room, row: Row<'_>) -> io::Result<()> 
         b'T' => room.put(row.at(), 7, (row.amount() % 10_000_000) as u32),
         b'o' => room.stage.take_order(row),
         b'O' => {
-            let number = room.open(row);
+            let number = opening_number(room.open(row));
             let words = row.opening_words().unwrap_or(b"");
             lines::called(out, "open", number, words)?;
         }

@@ -1,8 +1,7 @@
 // A card arrives at a position, while no round is dealt and no stake lies there. For every hosted table, position and card its outcome is that of host_spec/specs/Arrive.antt.
-ghost use Rattle.std.specs.Prelude.{◌≡◌, false};
+ghost use Rattle.std.specs.Prelude.{◌≡◌};
 ghost use Rattle.call.specs.Refusal.{number_in, first};
 ghost use Rattle.host_spec.specs.Cards.{arrived as arrived_card};
-ghost use Rattle.host_spec.specs.Broken.{host_broken};
 ghost use Rattle.host_spec.specs.Arrive.{arrive_conditions, arrive_effect};
 ghost use Rattle.host.specs.Outcome.{host_outcome, host_outcome_in};
 
@@ -30,11 +29,13 @@ fn arrived(card: u64) -> GuestCard
     }
 }
 
-// Why an arrival on a hosted table that is not broken is refused.
+// Why an arrival is refused: 1 broken, the conditions of every call of a guest, then 28 the position or the card is taken, 9 a stake lies there.
 fn check_arrive(h: Hosted, at: At, card: u64) -> Result<(), Refusal>
-    requires { host_broken h ≡ false }
     ensures { number_in result ≡ first (arrive_conditions h at.seat at.position card) }
 {
+    if host_broken(h) {
+        return Err(Refusal::Broken);
+    }
     check_guest(
         Refusal::RoundDealt,
         is_dealt(h.table),
@@ -54,9 +55,6 @@ fn check_arrive(h: Hosted, at: At, card: u64) -> Result<(), Refusal>
 pub fn arrive(h: Hosted, at: At, card: u64) -> Result<Hosted, Refusal>
     ensures { host_outcome_in h result ≡ host_outcome (arrive_conditions h at.seat at.position card) (arrive_effect h at.seat at.position card) h }
 {
-    if host_broken(h) {
-        return Err(Refusal::Broken);
-    }
     check_arrive(h, at, card)?;
     let place = 3 * (at.seat as usize) + (at.position as usize);
     let mut next = h;

@@ -1,8 +1,7 @@
 // A card leaves, named by itself alone, while no round is dealt and no stake lies where it sits. For every hosted table and card its outcome is that of host_spec/specs/Leave.antt.
-ghost use Rattle.std.specs.Prelude.{◌≡◌, false, IfOk};
+ghost use Rattle.std.specs.Prelude.{◌≡◌, IfOk};
 ghost use Rattle.call.specs.Refusal.{number_in, first};
 ghost use Rattle.host_spec.specs.Cards.{place_of};
-ghost use Rattle.host_spec.specs.Broken.{host_broken};
 ghost use Rattle.host_spec.specs.Leave.{leave_conditions, leave_effect};
 ghost use Rattle.host.specs.Outcome.{host_outcome, host_outcome_in};
 
@@ -13,12 +12,14 @@ use host_spec::Hosted;
 use state::round::is_dealt;
 use state::seat::{guest_money, seat_at};
 
-// Where the card of a leaving sits on a hosted table that is not broken, or why it is refused.
+// Where the card of a leaving sits, or why it is refused: 1 broken, 4 a round is dealt, 29 it is not here, 9 a stake lies there.
 fn check_leave(h: Hosted, card: u64) -> Result<usize, Refusal>
-    requires { host_broken h ≡ false }
     ensures number { number_in result ≡ first (leave_conditions h card) }
     ensures found { IfOk result (λ place. place ≡ place_of h card) }
 {
+    if host_broken(h) {
+        return Err(Refusal::Broken);
+    }
     if is_dealt(h.table) {
         return Err(Refusal::RoundDealt);
     }
@@ -34,9 +35,6 @@ fn check_leave(h: Hosted, card: u64) -> Result<usize, Refusal>
 pub fn leave(h: Hosted, card: u64) -> Result<Hosted, Refusal>
     ensures { host_outcome_in h result ≡ host_outcome (leave_conditions h card) (leave_effect h card) h }
 {
-    if host_broken(h) {
-        return Err(Refusal::Broken);
-    }
     let place = check_leave(h, card)?;
     let mut next = h;
     next.cards[place] = no_card();

@@ -76,12 +76,11 @@ fn play(
             hosted: counted(h, reply.table),
         };
     }
-    let cards = h.cards;
     HostReply {
         answer,
         hosted: Hosted {
             table: reply.table,
-            cards,
+            ..h
         },
     }
 }

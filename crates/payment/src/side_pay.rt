@@ -82,7 +82,8 @@ fn side_odds(kind: u8, first: &[u8]) -> u64
     }
 }
 
-// The pay of a stake of that kind; `split` says whether the first two cards were split.
+// The pay of a stake of that kind; `split` says whether the first two cards were split. It is no part of the first cards: it is a fact of the hands, worked out once
+// for the four kinds.
 #[tactic(auto, unfolding(crate::specs::SidePay::side_pay))]
 pub fn side_pay(kind: u8, stake: u32, first: [u8; 3], split: bool) -> Pay
     ensures { result ≡ side_pay kind stake (take (cond split 3 2) first) }

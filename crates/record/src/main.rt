@@ -1,22 +1,25 @@
 // Writes the session file (request 2.9) of the marked session of document 01: each call is played, and the accepted ones are told to the writer.
 #![tactic(auto)]
 
-mod house;
+mod order;
 
-use call::pay_line::LINES;
+use crate::order::marked_order;
+use answer::reply::Reply;
 use call::{At, Call};
 use cashier::opening::{empty_table, opening};
-use engine::step;
 use file_block::block::Block;
 use file_writer::writer::Writer;
+use stage::house::marked;
+use stage::pay_lines::PayLines;
 use std::io;
 use std::io::{BufWriter, Write};
 use table::Table;
 
-// A table and the writer of its session.
+// A table, the arrays that each call is lent, and the writer of its session.
 #[derive(Clone, Copy)]
 pub struct Session {
     pub table: Table,
+    pub lines: PayLines,
     pub writer: Writer,
 }
 
@@ -29,18 +32,11 @@ fn write_blocks<W: Write>(out: &mut W, blocks: &[Block]) -> io::Result<()> {
 }
 
 // One call: where it is accepted it is written.
-fn told<W: Write>(
-    out: &mut W,
-    s: &mut Session,
-    c: Call,
-    order: &[u8],
-    names: &mut [u32; LINES],
-    nets: &mut [i64; LINES],
-) -> io::Result<()> {
-    let reply = step(s.table, c, order, names, nets);
-    s.table = reply.table;
+fn told<W: Write>(out: &mut W, s: &mut Session, c: Call, order: &[u8]) -> io::Result<()> {
+    let Reply { answer, table } = s.lines.step(s.table, c, order);
+    s.table = table;
     // An answer's number, as C reads it: 0 is accepted.
-    if reply.answer.number != 0 {
+    if answer.number != 0 {
         return Ok(());
     }
     match s.writer.add(c, order) {
@@ -51,20 +47,19 @@ fn told<W: Write>(
 
 fn main(rt: HostRuntime) -> io::Result<()> {
     let mut out = BufWriter::new(rt.alloc(), io::writer(&rt))?;
-    let cards = house::marked_order();
+    let cards = marked_order();
     let order: &[u8] = &cards;
-    let begun = match Writer::begin(house::house(), order) {
+    let begun = match Writer::begin(marked(), order) {
         Ok(begun) => begun,
         Err(why) => return writeln!(out, "{why}"),
     };
     let block = begun.1;
     out.write_all(&block)?;
     let mut s = Session {
-        table: opening(house::house(), order).unwrap_or(empty_table()),
+        table: opening(marked(), order).unwrap_or(empty_table()),
+        lines: PayLines::new(),
         writer: begun.0,
     };
-    let mut names = [0; LINES];
-    let mut nets = [0; LINES];
     let at = At {
         seat: 2,
         position: 0,
@@ -82,7 +77,7 @@ fn main(rt: HostRuntime) -> io::Result<()> {
         Call::Stand(at),
     ];
     for call in calls {
-        told(&mut out, &mut s, call, order, &mut names, &mut nets)?;
+        told(&mut out, &mut s, call, order)?;
     }
     if let Some(last) = s.writer.end() {
         out.write_all(&last)?;

@@ -3,6 +3,7 @@ use crate::calls::call;
 use crate::lines;
 use stage::Stage;
 use stage::row::Row;
+use stage::shown::opening_number;
 use std::io;
 use std::io::Write;
 
@@ -11,7 +12,7 @@ fn open<W: Write>(out: &mut W, stage: &mut Stage, row: Row<'_>) -> io::Result<()
     let Some(words) = row.opening_words() else {
         return Ok(());
     };
-    let number = stage.open(row.house());
+    let number = opening_number(stage.open(row.house()));
     lines::opened(out, number, stage.table, words)
 }
 

@@ -1,11 +1,11 @@
 // The lines of a session that is played, one for each call.
 ghost use Rattle.books.specs.Laws.{Whole};
 
-use call::Call;
 use call::pay_line::LINES;
 use display::shown_table;
 use replaying::play_call;
 use session_file::reader::Reader;
+use stage::calls::call_name as name;
 use std::io;
 use std::io::Write;
 use table::Table;
@@ -19,29 +19,6 @@ pub(crate) fn row<W: Write>(out: &mut W, name: &str, number: u8, t: Table) -> io
         "{name} {number} {} {} {} {}",
         shown.tray, shown.layout, shown.purses, shown.left
     )
-}
-
-fn name(c: Call) -> &'static str {
-    match c {
-        Call::Fill(_) => "fill",
-        Call::Credit(_) => "credit",
-        Call::Buy(_, _) => "buy",
-        Call::Cash(_, _) => "cash",
-        Call::Stake(_, _) => "stake",
-        Call::Deal => "deal",
-        Call::Insure(_, _) => "insure",
-        Call::Stand(_) => "stand",
-        Call::Draw(_) => "draw",
-        Call::Double(_) => "double",
-        Call::Split(_) => "split",
-        Call::Surrender(_) => "surrender",
-        Call::Even(_) => "even",
-        Call::Five(_) => "five",
-        Call::Close => "close",
-        Call::Void => "void",
-        Call::Load => "load",
-        Call::Side(_, _, _) => "side",
-    }
 }
 
 // All calls of a file that is not refused, from its first table on.

@@ -28,6 +28,7 @@ pub fn open_file(file: &[u8]) -> Result<Table, Refusal>
 }
 
 // One call that the file hands out, on a whole table, which stays whole.
+// Two lent arrays, as the engine takes them.
 pub fn play_call(
     t: Table,
     file: &[u8],

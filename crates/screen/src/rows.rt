@@ -4,6 +4,7 @@ use drawing::drawn;
 use stage::Stage;
 use stage::calls::call_of;
 use stage::row::Row;
+use stage::shown::opening_number;
 use std::io;
 use std::io::Write;
 
@@ -31,7 +32,7 @@ impl Show {
         let Some(words) = row.opening_words() else {
             return Ok(());
         };
-        let number = self.stage.open(row.house());
+        let number = opening_number(self.stage.open(row.house()));
         let seat = At {
             seat: 0,
             position: 0,

@@ -10,6 +10,7 @@ ghost use Rattle.script.specs.Cards.{rank_named, suit_named, card_named};
 ghost use Rattle.script.specs.Lines.{ends_line, line_end};
 
 // The digit, or 0 for any other letter.
+// Letters stay bytes, without an enum: a script is a text file, and every byte of it has its answer.
 pub fn digit(letter: u8) -> u8
     ensures { result ≡ digit_of letter }
 {

@@ -1,2 +1,3 @@
--- The words that programs write for calls.
+-- What stands in a script's rows, and the words that programs write for calls.
 pub mod Names
+pub mod Rows

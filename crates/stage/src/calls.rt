@@ -5,6 +5,7 @@ ghost use Rattle.stage.specs.Names.{name_of};
 use call::{At, Call};
 
 // The call that a letter stands for.
+// Letters stay bytes, without an enum: a script is a text file, and every byte of it has its answer.
 pub fn call_of(letter: u8, at: At, amount: u64) -> Call {
     match letter {
         b'f' => Call::Fill(amount),

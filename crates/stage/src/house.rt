@@ -1,6 +1,7 @@
 // Houses: the one that the others differ from, and the options as a row has them.
 ghost use Rattle.std.specs.Prelude.{◌≡◌, true};
 ghost use Rattle.options.specs.Ranges.{in_range};
+ghost use Rattle.stage.specs.Rows.{house_in};
 
 use options::Options;
 use script::{digit, number};
@@ -30,7 +31,9 @@ pub fn marked() -> Options
 }
 
 // Thirteen options of a digit each, at 2; the cut at 16, the smallest stake at 20, the largest at 28.
-pub(crate) fn house_in(letters: &[u8; 36]) -> Options {
+pub(crate) fn house_in(letters: &[u8; 36]) -> Options
+    ensures { result ≡ house_in letters.now }
+{
     Options {
         seats: digit(letters[2]),
         decks: digit(letters[3]),

@@ -7,19 +7,22 @@ pub mod pay_lines;
 pub mod row;
 pub mod shown;
 
-ghost use Rattle.std.specs.Prelude.{◌≡◌, [], min, take};
+ghost use Rattle.std.specs.Prelude.{◌≡◌, [], min, take, get_or};
+ghost use Rattle.call.specs.Refusal.{number_in};
 ghost use Rattle.answer.specs.Outcome.{outcome};
+ghost use Rattle.answer.specs.Scores.{no_scores};
 ghost use Rattle.answer.specs.Reply.{given_by, given_of};
 ghost use Rattle.cashier_spec.specs.Opening.{open_conditions, open_table, empty_table};
 ghost use Rattle.engine.specs.Step.{step as step_by};
 ghost use Rattle.script.specs.Begun.{begun};
+ghost use Rattle.stage.specs.Rows.{order_in};
 
 use crate::pay_lines::PayLines;
 use crate::row::Row;
-use answer::outcome::outcome_in;
 use answer::reply::{Answer, Reply};
 use answer::scores::{Scores, no_scores};
 use call::Call;
+use call::refusal::Refusal;
 use cashier::opening::{empty_table, opening};
 use options::Options;
 use script::orders::{Order, begun_order};
@@ -37,7 +40,9 @@ pub struct Stage {
 impl Stage {
     // The empty table, which a refused opening gives, no order, and nothing called.
     pub fn new() -> Self
-        ensures { result.order ≡ begun [] 0 }
+        ensures table { result.table ≡ empty_table }
+        ensures order { result.order ≡ begun [] 0 }
+        ensures aloud { result.aloud ≡ no_scores }
     {
         Stage {
             table: empty_table(),
@@ -49,19 +54,20 @@ impl Stage {
 
     // The order that the next opening or load is lent.
     pub fn take_order(&mut self, row: Row<'_>)
-        ensures { self.new.table ≡ self.old.table }
+        ensures order { get_or row.entry.front.now 2 0 ≡ 46 → self.new.order ≡ order_in row.entry.front.now row.entry.words.now }
+        ensures table { self.new.table ≡ self.old.table }
     {
         self.order = row.order();
     }
 
-    // An opening with the order that was lent last, and its number.
-    pub fn open(&mut self, house: Options) -> u8
+    // An opening with the order that was lent last. A refused one leaves the empty table.
+    pub fn open(&mut self, house: Options) -> Result<(), Refusal>
         ensures { let cards = take (min self.old.order.count 416) self.old.order.cards in
-            record { number = result; table = self.new.table } ≡ outcome (open_conditions house cards) (open_table house cards) empty_table }
+            record { number = number_in result; table = self.new.table } ≡ outcome (open_conditions house cards) (open_table house cards) empty_table }
     {
-        let opened = outcome_in(&empty_table(), opening(house, self.order.as_slice()));
-        self.table = opened.table;
-        opened.number
+        self.table = empty_table();
+        self.table = opening(house, self.order.as_slice())?;
+        Ok(())
     }
 
     // A call on the table, with the order that was lent last.

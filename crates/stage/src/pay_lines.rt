@@ -1,5 +1,5 @@
 // The pay lines of close as the programs read them: a step is lent two arrays, and a line is a name and a net at the same place of both.
-ghost use Rattle.std.specs.Prelude.{◌≡◌, length, min, take, replicate};
+ghost use Rattle.std.specs.Prelude.{◌≡◌, length, min, take, replicate, pos};
 ghost use Rattle.std.specs.Iterator.{at_most};
 ghost use Rattle.answer.specs.Reply.{given_by, given_of};
 ghost use Rattle.engine.specs.Step.{step as step_by};
@@ -68,7 +68,8 @@ pub struct PayLines {
 
 impl PayLines {
     pub fn new() -> Self
-        ensures { result.names ≡ replicate 243 0 }
+        ensures names { result.names ≡ replicate 243 0 }
+        ensures nets { result.nets ≡ replicate 243 (pos 0) }
     {
         PayLines {
             names: [0; LINES],

@@ -1,9 +1,8 @@
 // The rows of a script: at 0 stands the letter of what a row asks, at 2 the seat, at 3 the position (a blank is the seated guest's), at 4 the amount, from 21 on the words.
-ghost use Rattle.std.specs.Prelude.{◌≡◌, ◌<◌, ◌≤◌, ◌↔◌, ◌/◌, min, length, take, drop, get_or, IsSome, IfSome, slice_range};
+ghost use Rattle.std.specs.Prelude.{◌≡◌, ◌<◌, ◌≤◌, ◌↔◌, length, take, drop, get_or, IsSome, IfSome, slice_range};
 ghost use Rattle.script.specs.Number.{digit_of, number_of};
-ghost use Rattle.script.specs.Named.{cards_below};
-ghost use Rattle.script.specs.Begun.{begun};
 ghost use Rattle.options.specs.Ranges.{no_options};
+ghost use Rattle.stage.specs.Rows.{order_in, house_in};
 
 use crate::house::house_in;
 use call::At;
@@ -61,8 +60,7 @@ impl<'a> Row<'a> {
     // In the row of an order the decks stand at 4, and the words are the cards that come first. At 2 stands how the order is wrong, as a builder may lend it: one card short (-),
     // with a byte that is no card in its last place (x), or with the first card there (2); a point where it is not.
     pub fn order(&self) -> Order
-        ensures { get_or self.now.front.now 2 0 ≡ 46
-            → result ≡ begun (take (min (length self.now.words.now / 2) 64) (cards_below self.now.words.now 64)) (digit_of (get_or self.now.front.now 4 0)) }
+        ensures { get_or self.now.front.now 2 0 ≡ 46 → result ≡ order_in self.now.front.now self.now.words.now }
     {
         let mut order = order_named(self.words, digit(self.front[4]));
         let Some(last) = order.as_slice().len().checked_sub(1) else {
@@ -79,7 +77,8 @@ impl<'a> Row<'a> {
 
     // In the row of an opening the options stand in front of the words; a row too short for them has none.
     pub fn house(&self) -> Options
-        ensures { length self.now.letters.now < 36 → result ≡ no_options }
+        ensures short { length self.now.letters.now < 36 → result ≡ no_options }
+        ensures long { 36 ≤ length self.now.letters.now → result ≡ house_in (take 36 self.now.letters.now) }
     {
         match self.letters.first_chunk::<36>() {
             Some(letters) => house_in(letters),

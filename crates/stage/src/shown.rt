@@ -1,5 +1,9 @@
-// How the programs write cards and sums.
-use cards::hand::{Hand, held};
+// How the programs write openings, cards and sums.
+ghost use Rattle.std.specs.Prelude.{◌≡◌};
+ghost use Rattle.call.specs.Refusal.{number_in};
+
+use call::refusal::Refusal;
+use cards::hand::Hand;
 use cards::score::HandScore;
 use std::fmt;
 
@@ -8,6 +12,16 @@ const RANKS: [char; 13] = [
 ];
 
 const SUITS: [char; 4] = ['a', 'b', 'c', 'd'];
+
+// The number that is written for an opening: 0 where it is accepted.
+pub fn opening_number(opened: Result<(), Refusal>) -> u8
+    ensures { result ≡ number_in opened }
+{
+    match opened {
+        Ok(()) => 0,
+        Err(why) => why.number(),
+    }
+}
 
 // A card by two letters, the first for its rank, the other for its suit.
 #[derive(Clone, Copy)]
@@ -26,7 +40,7 @@ pub struct Cards(pub Hand);
 
 impl fmt::Display for Cards {
     fn fmt<W: fmt::Write>(&self, f: &mut fmt::Formatter<W>) -> fmt::Result {
-        for card in &self.0.cards[..held(self.0)] {
+        for card in self.0.held_cards() {
             write!(f, "{}", CardName(*card))?;
         }
         Ok(())

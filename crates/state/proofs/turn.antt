@@ -1,3 +1,2 @@
--- The hands of the seats, as the walk over them cites them, what the seat it finds says of whether some hand waits, and the place in that seat.
+-- The hands of the seats, and what the seat that the walk over them finds says of whether some hand waits.
 pub mod Hands
-pub mod Place

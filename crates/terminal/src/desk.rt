@@ -3,14 +3,13 @@ ghost use Rattle.std.specs.Prelude.{◌≤◌};
 
 use crate::asked::first_guest;
 use crate::orders::{Source, by_seed};
-use answer::reply::Answer;
-use call::pay_line::LINES;
+use answer::reply::{Answer, Reply};
 use call::{At, Call};
 use cashier::opening::empty_table;
-use engine::step;
 use file_block::block::Block;
 use file_writer::writer::Writer;
 use options::Options;
+use stage::pay_lines::PayLines;
 use state::empty::no_options;
 use std::slice;
 use table::Table;
@@ -103,17 +102,13 @@ pub(crate) fn called(
     c: Call,
     order: &[u8],
     file: &mut [u8; ROOM],
-    names: &mut [u32; LINES],
-    nets: &mut [i64; LINES],
+    lines: &mut PayLines,
 ) -> Turn {
-    let before = d.table;
-    let reply = step(before, c, order, names, nets);
-    let answer = reply.answer;
+    let Reply { answer, table } = lines.step(d.table, c, order);
     // An answer's number, as C reads it: 0 is accepted.
     if answer.number != 0 {
         return Turn { answer, desk: d };
     }
-    let table = reply.table;
     let mut next = d;
     next.table = table;
     let desk = match next.writer.add(c, order) {

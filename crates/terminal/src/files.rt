@@ -2,14 +2,14 @@
 ghost use Rattle.std.specs.Prelude.{◌≤◌};
 
 use crate::asked::{Fault, Needed};
-use crate::desk::{Desk, ROOM, called, opened};
+use crate::desk::{Desk, ROOM, Turn, called, opened};
 use crate::names::Typed;
 use crate::numbers::Said;
-use call::pay_line::LINES;
 use display::shown_table;
 use drawing::drawn;
 use replaying::open_file;
 use session_file::reader::{Handed, Reader, file_options, file_order, part};
+use stage::pay_lines::PayLines;
 use std::fs::OpenOptions;
 use std::io::{Read, Write};
 use std::rt::Files;
@@ -125,25 +125,20 @@ fn replayed_call<W: Write>(
     from: &[u8],
     h: Handed,
     file: &mut [u8; ROOM],
-    names: &mut [u32; LINES],
-    nets: &mut [i64; LINES],
+    lines: &mut PayLines,
 ) -> io::Result<Desk> {
-    let call = h.call;
-    let turn = called(d, call, part(from, h.order, h.cards), file, names, nets);
-    let answer = turn.answer;
-    let next = turn.desk;
-    write!(out, "  {}: {}", Typed(call), Said(answer.number))?;
-    figures(out, next.table)?;
-    Ok(next)
+    let Turn { answer, desk } = called(d, h.call, part(from, h.order, h.cards), file, lines);
+    write!(out, "  {}: {}", Typed(h.call), Said(answer.number))?;
+    figures(out, desk.table)?;
+    Ok(desk)
 }
 
 // All calls of a file that is not refused.
 fn each<W: Write>(out: &mut W, d: Desk, from: &[u8], file: &mut [u8; ROOM]) -> io::Result<Desk> {
-    let mut names = [0u32; LINES];
-    let mut nets = [0i64; LINES];
+    let mut lines = PayLines::new();
     let mut next = d;
     for handed in Reader::of_checked(from) {
-        next = replayed_call(out, next, from, handed, file, &mut names, &mut nets)?;
+        next = replayed_call(out, next, from, handed, file, &mut lines)?;
     }
     Ok(next)
 }

@@ -23,14 +23,7 @@ fn play<W: Write>(out: &mut W, d: &mut Desk, call: Call, file: &mut [u8; ROOM]) 
     let mut lines = PayLines::new();
     let order = d.source.order_for(d.house.decks);
     let at = caller(call).unwrap_or(d.guest);
-    let Turn { answer, desk } = called(
-        *d,
-        call,
-        order.as_slice(),
-        file,
-        &mut lines.names,
-        &mut lines.nets,
-    );
+    let Turn { answer, desk } = called(*d, call, order.as_slice(), file, &mut lines);
     *d = desk;
     answered(out, answer, &lines)?;
     drawn(out, d.table, at)?;

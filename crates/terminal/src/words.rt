@@ -1,4 +1,6 @@
 // The words of a line, between blanks.
+
+// Letters stay bytes, without an enum: what is typed or piped is text, and every byte of it has its answer.
 fn is_blank(letter: u8) -> bool {
     matches!(letter, b' ' | b'\t' | b'\r')
 }

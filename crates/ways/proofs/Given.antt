@@ -1,6 +1,6 @@
--- What the numbers 1, 5 and 13 leave: a table with no number is whole, and its count and the list at a place are those of the definition.
+-- What the numbers 1, 5 and 13 leave: a table with no number is not broken, and its count and the list at a place are those of the definition.
 use mathlib.Core.Path.{◌≡◌, refl, sym, ◌∙◌, ap}
-use mathlib.Core.Bool.{Bool, true, cond}
+use mathlib.Core.Bool.{Bool, true, false, cond}
 use mathlib.Core.List.{List, []}
 use Prim.Native.Nat.{ℕ, ◌<◌, ◌≤◌}
 use lib.Dec.{eqb}
@@ -10,8 +10,7 @@ use borrow.Author.Tests.{ne_eqb, lt-ltb, le-ltb}
 use Rattle.lists.specs.Tests.{all_of}
 use Rattle.call.proofs.Refusals.{none_hold}
 use Rattle.table.specs.declared.Table.{Table}
-use Rattle.table.specs.Shape.{Shaped}
-use Rattle.books.specs.Laws.{Whole}
+use Rattle.table.specs.Broken.{broken}
 use Rattle.ways.specs.declared.WaysCount.{WaysCount}
 use Rattle.ways.specs.Ways.{ways}
 use Rattle.ways.specs.Sum.{way_sum}
@@ -21,9 +20,9 @@ abbrev make_count : ℕ → ℕ → WaysCount
 make_count number count = record { number = number; count = count }
 
 module _ (t : Table) where
-  pub number-whole : Shaped t → ways_number t ≡ 0 → Whole t
+  pub number-unbroken : ways_number t ≡ 0 → broken t ≡ false
   unfolding ways_number ways_conditions all_of
-  number-whole shaped e = let (unbroken, rest) = none_hold (ways_conditions t) refl e in record { shaped = shaped; sound = unbroken }
+  number-unbroken e = (none_hold (ways_conditions t) refl e).0
 
   pub count-refused : (n : ℕ) → n ≡ ways_number t → (n ≡ 0 → ⊥) → make_count n 0 ≡ count_of_ways t
   unfolding count_of_ways

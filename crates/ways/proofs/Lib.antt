@@ -1,4 +1,5 @@
 -- Laws that the proofs of the functions cite, and the laws of request 2.11.
+pub mod FewNumbers
 pub mod Counting
 pub mod Turns
 pub mod Given

@@ -106,6 +106,13 @@ unfolding all_lines sum_of nets_of_lines
 all_diff o bank i [] each = diff_pos 0
 all_diff o bank i (s ∷ ss) each = diff_append (seat_lines o bank i s) (all_lines o bank (suc i) ss) (each 0 i (omega arith)) (all_diff o bank (suc i) ss (λ k seat h. each (suc k) seat (omega arith)))
 
+-- the numbers that the code sums up on both tables
+pub record EndMoney (t : Table) (before after : Sums) : Type 0 where
+  pub small-after : after.purses ≤ 1000000000000000
+  pub small-before : before.purses + before.laid ≤ 1000000000000000
+  pub few_prizes : before.prizes ≤ before.purses + before.laid
+  pub comes_to : end_sum t ≡ pos after.purses -ℤ pos (before.purses + before.laid - before.prizes)
+
 -- at an accepted close
 module _ (t : Table) (whole : Whole t) (ends : number t Close [] ≡ 0) where
   ok : CloseAccepted t
@@ -170,14 +177,7 @@ module _ (t : Table) (whole : Whole t) (ends : number t Close [] ≡ 0) where
         sum-plus (over_guests purse) (over_guests laid) t.seats,
       )
 
-  -- the numbers that the code sums up on both tables
-  pub record EndMoney (before after : Sums) : Type 0 where
-    pub small-after : after.purses ≤ 1000000000000000
-    pub small-before : before.purses + before.laid ≤ 1000000000000000
-    pub few_prizes : before.prizes ≤ before.purses + before.laid
-    pub comes_to : end_sum t ≡ pos after.purses -ℤ pos (before.purses + before.laid - before.prizes)
-
-  pub end_money : (u : Table) (before after : Sums) → u ≡ next t Close [] → before ≡ table_sums t → after ≡ table_sums u → EndMoney before after
+  pub end_money : (u : Table) (before after : Sums) → u ≡ next t Close [] → before ≡ table_sums t → after ≡ table_sums u → EndMoney t before after
   end_money u before after behind sums later =
       let closed-whole : Whole u = subst Whole (sym behind) (next-whole t Close whole ends) in
       let own-money = ok.sound.money in

@@ -12,15 +12,13 @@ use borrow.Author.Tests.{eqb-true, eqb-false}
 use Rattle.call.specs.declared.At.{At}
 use Rattle.call.specs.declared.Call.TheVariants.{Close}
 use Rattle.table.specs.declared.Table.{Table}
-use Rattle.books.specs.Laws.{Whole}
 use Rattle.engine.specs.Step.{number}
 use Rattle.engine.specs.Run.{run}
 use Rattle.ways.specs.declared.pick.Onward.{Onward}
-use Rattle.ways.specs.Decisions.{decision, plays}
+use Rattle.ways.specs.Decisions.{plays}
 use Rattle.ways.specs.Ways.{ways_from}
 use Rattle.ways.specs.Aids.Picked.{GoesOn, Ends}
 use Rattle.ways.proofs.Counting.{ended, stuck, spent}
-use Rattle.ways.proofs.Turns.{next-whole}
 
 -- where there is a list, and it does not end, a hand waits; where no decision is left, it ends
 pub some_waits_lem : (n : ℕ) (at : At) (t : Table) → 0 < length (ways_from n at t) → (number t Close [] ≡ 0 → ⊥) → number t Close [] ≡ 7
@@ -41,13 +39,12 @@ spent_ends at t some = go (eqb (number t Close []) 0) refl
 pub record Picking (t : Table) (at : At) (place : ℕ) (u : Table) (rest n : ℕ) (decisions : List ℕ) : Type 0 where
   pub few : n ≤ 8
   pub full : length decisions ≡ 8
-  pub whole : Whole u
   pub inside : rest < length (ways_from (8 - n) at u)
   pub list : take n decisions ++ get_or (ways_from (8 - n) at u) rest [] ≡ get_or (ways_from 8 at t) place []
   pub behind : run u (plays at (get_or (ways_from (8 - n) at u) rest [])) ≡ run t (plays at (get_or (ways_from 8 at t) place []))
 
-pub none_picked : (t : Table) (at : At) (place : ℕ) (decisions : List ℕ) → length decisions ≡ 8 → Whole t → place < length (ways_from 8 at t) → Picking t at place t place 0 decisions
-none_picked t at place decisions full whole inside = record { few = omega arith; full = full; whole = whole; inside = inside; list = refl; behind = refl }
+pub none_picked : (t : Table) (at : At) (place : ℕ) (decisions : List ℕ) → length decisions ≡ 8 → place < length (ways_from 8 at t) → Picking t at place t place 0 decisions
+none_picked t at place decisions full inside = record { few = omega arith; full = full; inside = inside; list = refl; behind = refl }
 
 module _ (t : Table) (at : At) (place : ℕ) (u : Table) (rest n : ℕ) (decisions : List ℕ) (p : Picking t at place u rest n decisions) where
   pub one_picked : n < 8 → (r : Onward) → GoesOn u at (7 - n) rest r → Picking t at place r.table r.place (n + 1) (set decisions n r.kind)
@@ -62,7 +59,6 @@ module _ (t : Table) (at : At) (place : ℕ) (u : Table) (rest n : ℕ) (decisio
       record {
         few = omega arith;
         full = length-set decisions n r.kind ∙ p.full;
-        whole = subst Whole (sym on.after) (next-whole u (decision at r.kind) p.whole on.accepted);
         inside = subst (λ (l : List (List ℕ)). r.place < length l) same on.inside;
         list =
             ap (λ (l : List ℕ). l ++ get_or (ways_from (8 - (n + 1)) at r.table) r.place []) (ap (λ (k : ℕ). take k (set decisions n r.kind)) (add-one n) ∙ take-suc-set decisions n r.kind (omega (arith, p.full)))
@@ -87,6 +83,5 @@ module _ (t : Table) (at : At) (place : ℕ) (u : Table) (rest n : ℕ) (decisio
       record {
         list = sym (append-nil (take n decisions)) ∙ ap (λ (l : List ℕ). take n decisions ++ l) (sym none) ∙ p.list;
         behind = ap (λ (l : List ℕ). run u (plays at l)) (sym none) ∙ p.behind;
-        whole = p.whole;
         ends = e;
       }

@@ -1,3 +1,2 @@
 -- What contracts of private functions name.
-pub mod Tried
 pub mod Picked

@@ -1,16 +1,15 @@
-// One decision tried on a table, and what close would give there: both by the engine's step. The tables are known not to be broken.
-ghost use Rattle.std.specs.Prelude.{◌≡◌, false, []};
+// A decision or close played on a table that is not broken: both by the engine's step, which leaves it not broken.
+ghost use Rattle.std.specs.Prelude.{◌≡◌, []};
 ghost use Rattle.call.specs.declared.Call.TheVariants.{Close};
-ghost use Rattle.table.specs.Broken.{broken};
+ghost use Rattle.call.specs.Refusal.{number_in};
 ghost use Rattle.engine.specs.Step.{number, next};
 ghost use Rattle.ways.specs.Decisions.{decision as decision_of};
-ghost use Rattle.ways.specs.Aids.Tried.{Tried};
 
-use answer::outcome::Outcome;
 use call::pay_line::LINES;
+use call::refusal::Refusal;
 use call::{At, Call};
 use engine::step_whole;
-use table::Table;
+use state::shape::table_shape;
 use table::whole::Whole;
 
 // The kinds in the request's order: stand, draw, double, split, even, five. Bytes and no enum: a list of them crosses the C interface in a `Way`.
@@ -29,39 +28,41 @@ fn decision(at: At, kind: u8) -> Call
     }
 }
 
-// The number of a call and the table after it.
-fn played(t: Table, c: Call) -> Outcome
-    requires { broken t ≡ false }
-    ensures { Tried t c result }
+// A call in place: a `Result` that holds the table is zeroed before it is filled, and with one every_way takes 1.46 times the instructions.
+fn play(t: &mut Whole, c: Call) -> Result<(), Refusal>
+    ensures number { number_in result ≡ number t.old c [] }
+    ensures after { t.new ≡ next t.old c [] }
 {
     let mut names = [0u32; LINES];
     let mut nets = [0i64; LINES];
-    let r = step_whole(&Whole::new(t), c, b"", &mut names, &mut nets);
-    Outcome {
-        number: r.answer.number,
-        table: r.table,
+    table_shape(*t.table());
+    let r = step_whole(t, c, b"", &mut names, &mut nets);
+    if let Ok(why) = Refusal::try_from(r.answer.number) {
+        return Err(why);
     }
+    *t = Whole::new(r.table);
+    Ok(())
 }
 
-// Of a decision.
-pub(crate) fn tried(t: Table, at: At, kind: u8) -> Outcome
-    requires { broken t ≡ false }
-    ensures { Tried t (decision_of at kind) result }
+// The decision of that kind.
+pub(crate) fn decide(t: &mut Whole, at: At, kind: u8) -> Result<(), Refusal>
+    ensures number { number_in result ≡ number t.old (decision_of at kind) [] }
+    ensures after { t.new ≡ next t.old (decision_of at kind) [] }
 {
-    played(t, decision(at, kind))
+    play(t, decision(at, kind))
 }
 
-// The same of close.
-pub(crate) fn closed(t: Table) -> Outcome
-    requires { broken t ≡ false }
-    ensures { Tried t Close result }
+pub(crate) fn close(t: &mut Whole) -> Result<(), Refusal>
+    ensures number { number_in result ≡ number t.old Close [] }
+    ensures after { t.new ≡ next t.old Close [] }
 {
-    played(t, Call::Close)
+    play(t, Call::Close)
 }
 
-pub(crate) fn close_number(t: Table) -> u8
-    requires { broken t ≡ false }
-    ensures { result ≡ number t Close [] }
+// What close would say of a table that stays as it is.
+pub(crate) fn check_close(t: &Whole) -> Result<(), Refusal>
+    ensures { number_in result ≡ number t.now Close [] }
 {
-    closed(t).number
+    let mut after = *t;
+    close(&mut after)
 }

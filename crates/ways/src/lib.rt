@@ -8,15 +8,17 @@ mod numbers;
 mod pick;
 mod sum;
 
-ghost use Rattle.std.specs.Prelude.{◌≡◌};
+ghost use Rattle.std.specs.Prelude.{◌≡◌, IfOk};
+ghost use Rattle.call.specs.Refusal.{number_in};
 ghost use Rattle.ways.specs.Number.{ways_number, count_of_ways, no_way, way_at, way_of};
 
 use crate::count::count_from;
 use crate::numbers::{check_ways, player};
 use crate::pick::pick_list;
 use crate::sum::end_sum;
-use state::shape::table_shape;
+use call::refusal::Refusal;
 use table::Table;
+use table::whole::Whole;
 
 // The number, 0 where there is a count. Two numbers and no Result: C reads them.
 #[repr(C)]
@@ -49,13 +51,10 @@ pub fn ways_count(t: Table) -> WaysCount
             number: why.number(),
             count: 0,
         },
-        Ok(()) => {
-            table_shape(t);
-            WaysCount {
-                number: 0,
-                count: count_from(t, player(t), MOST),
-            }
-        }
+        Ok(()) => WaysCount {
+            number: 0,
+            count: count_from(&Whole::new(t), player(t), MOST),
+        },
     }
 }
 
@@ -71,32 +70,34 @@ fn no_way(number: u8) -> Way
     }
 }
 
-// Of a table that has a count.
-fn counted_way(t: Table, place: usize) -> Way
-    requires { ways_number t ≡ 0 }
-    ensures { way_of result ≡ way_at t place }
+// Of a table that has a count, or why it has none. Close is accepted where the picked list ends, so the sum is never refused.
+fn counted_way(t: Table, place: usize) -> Result<Way, Refusal>
+    ensures number { number_in result ≡ ways_number t }
+    ensures way { IfOk result (λ w. way_of w ≡ way_at t place) }
 {
-    table_shape(t);
+    check_ways(t)?;
+    let whole = Whole::new(t);
     let at = player(t);
-    if count_from(t, at, MOST) <= place {
-        return no_way(0);
+    if count_from(&whole, at, MOST) <= place {
+        return Ok(no_way(0));
     }
-    let p = pick_list(t, at, place);
+    let p = pick_list(&whole, at, place);
     let decisions = p.decisions;
-    Way {
+    let sum = end_sum(&p.table)?;
+    Ok(Way {
         number: 0,
         found: true,
         length: p.length,
         decisions,
-        sum: end_sum(p.table),
-    }
+        sum,
+    })
 }
 
 pub fn way_at(t: Table, place: usize) -> Way
     ensures { way_of result ≡ way_at t place }
 {
-    match check_ways(t) {
+    match counted_way(t, place) {
+        Ok(way) => way,
         Err(why) => no_way(why.number()),
-        Ok(()) => counted_way(t, place),
     }
 }

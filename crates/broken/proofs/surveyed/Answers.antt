@@ -20,7 +20,7 @@ use Rattle.table.specs.Seat.{missing_seat, seat_cards}
 use Rattle.table.specs.Table.{is_dealt, up}
 use Rattle.table.specs.Broken.{sound_seat, seat_sound}
 use Rattle.money.specs.Sums.{seat_sums, sums_over}
-use Rattle.money.proofs.sums.Pass.{next-seat, fits_in_lem, no_guests_fit, three_more}
+use Rattle.money.proofs.sums.Pass.{next-seat, no_guests_fit, three_more}
 use Rattle.card_count.specs.Aids.Counters.{counted_all}
 use Rattle.card_count.specs.Aids.Counted.{Counted}
 use Rattle.card_count.proofs.out_cards.Counting.{counted_none, counted_next, counted-room, counted_is, counted-at}
@@ -87,15 +87,6 @@ pub count_seat-requires : goal.count_seat-requires
 count_seat-requires c =
     counted-room 720 80 c.requires c.loop-i.invariant.4 (omega arith)
 
-pub overflow_add-cards : goal.overflow_add-cards
-overflow_add-cards c = omega arith
-
-pub surveyed_lone-one-requires : goal.surveyed_lone-one-requires
-surveyed_lone-one-requires c = record { lone = sym c.nobody_beside.ensures ∙ c.if-nobody_beside.true; hands = c.looked_at-look.ensures }
-
-pub surveyed_crowd-one-requires : goal.surveyed_crowd-one-requires
-surveyed_crowd-one-requires c = c.looked_at-look.ensures
-
 pub returns-in_err-one : goal.returns-in_err-one
 returns-in_err-one c =
     let t = c.args.t in
@@ -108,11 +99,6 @@ returns-in_err-one c =
       sums = tt;
       counted = tt;
     })
-
-pub plus-sums-requires : goal.plus-sums-requires
-plus-sums-requires c =
-    let one = passed _ _ 3 _ c.in_ok-one.field-0 (joined (goal.at.plus-sums-requires c).Joined-nobody_beside) c.in_ok-one.was in
-    record { left = fits_in_lem (3 * c.loop-i.i) 27 c.loop-i.sums (omega arith) c.loop-i.invariant.3; right = rw one.sums (fits_in_lem 3 27 _ (omega arith) one.fits) }
 
 pub loop-i-preserved : goal.loop-i-preserved
 loop-i-preserved c =

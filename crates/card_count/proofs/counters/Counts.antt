@@ -1,14 +1,14 @@
--- Laws of counters: over an appended list, one card more, what each counter comes to, and the room that is left.
-use mathlib.Core.Path.{◌≡◌, refl, sym, ap, ◌∙◌}
+-- Laws of counters: over an appended list, what a loop leaves to count, what each counter comes to, and the room that is left.
+use mathlib.Core.Path.{◌≡◌, refl, sym, ap, subst, ◌∙◌}
 use mathlib.Core.List.{List, [], ◌∷◌, ◌++◌}
 use Prim.Native.Nat.{ℕ, ◌+◌, ◌*◌, ◌≤◌, ◌<◌}
 use native.Mathlib.Decide.{ℕ_discrete, dec_le}
 use native.Mathlib.Numerals.{add-one}
 use native.Mathlib.Omega.{arith}
 use borrow.Author.Tests.{eq-eqb, ne_eqb}
-use lib.ListN.{length, get_or, take, length-set, replicate, length-replicate, get_or-replicate, get_or-eq_default}
+use lib.ListN.{length, get_or, take, drop, length-append, length-set, replicate, length-replicate, get_or-replicate, get_or-eq_default, take-append-drop}
 use lib.Dec.{eqb}
-use lib.Seq.{take-suc, get_or-set_same, get_or-set_other, lt-length-set, length-take-le}
+use lib.Seq.{drop-cons, drop-drop, get_or-set_same, get_or-set_other, lt-length-set}
 use Rattle.lists.specs.Sum.{sum_of, count_of, is_it}
 use Rattle.lists.proofs.Sums.{sum-most}
 use Rattle.lists.proofs.Picks.{cond_most}
@@ -18,36 +18,6 @@ pub counted-append : (of xs ys : List ℕ) → counted_all of (xs ++ ys) ≡ cou
 unfolding counted_all
 counted-append of [] ys = refl
 counted-append of (x ∷ xs) ys = counted-append (counted of x) xs ys
-
-counted-one : (of : List ℕ) (x : ℕ) → counted_all of (x ∷ []) ≡ counted of x
-unfolding counted_all
-counted-one of x = refl
-
--- the first i + 1 cards: the first i, and the one at i
-counted_next : (of xs : List ℕ) (i : ℕ) → i < length xs → counted (counted_all of (take i xs)) (get_or xs i 0) ≡ counted_all of (take (i + 1) xs)
-counted_next of xs i h =
-    sym (ap (λ (n : ℕ). counted_all of (take n xs)) (add-one i)
-    ∙ ap (counted_all of) (take-suc xs i 0 h)
-    ∙ counted-append of (take i xs) (get_or xs i 0 ∷ [])
-    ∙ counted-one (counted_all of (take i xs)) (get_or xs i 0))
-
--- what a loop keeps: the counters have the first i cards
-pub record Have (of₀ xs : List ℕ) (i : ℕ) (of : List ℕ) : Type 0 where
-  pub first : of ≡ counted_all of₀ (take i xs)
-
-pub have_none : (of xs : List ℕ) → Have of xs 0 of
-unfolding counted_all
-have_none of xs = record { first = refl }
-
-pub have_next : {of₀ of xs : List ℕ} {i : ℕ} (j : ℕ) (next : List ℕ) → Have of₀ xs i of → next ≡ counted of (get_or xs i 0) → j ≡ i + 1 → i < length xs → Have of₀ xs j next
-have_next {of₀ = of₀} {xs = xs} {i = i} j next have one far below =
-    record {
-      first =
-          one
-          ∙ ap (λ (of : List ℕ). counted of (get_or xs i 0)) have.first
-          ∙ counted_next of₀ xs i below
-          ∙ sym (ap (λ (n : ℕ). counted_all of₀ (take n xs)) far);
-    }
 
 length-counted : (of xs : List ℕ) → length (counted_all of xs) ≡ length of
 unfolding counted_all
@@ -83,10 +53,25 @@ pub room_after : (of xs : List ℕ) (n m : ℕ) → Room of n → length xs + m 
 room_after of xs n m room h =
     record { each_byte = length-counted of xs ∙ room.each_byte; fits = λ b. omega (arith, counted-most of xs b, room.fits b) }
 
--- what the first i cards leave of the room for all
-pub have_room : {of₀ of xs : List ℕ} {i n : ℕ} → Have of₀ xs i of → Room of₀ (length xs) → i + n ≤ length xs → Room of n
-have_room {of₀ = of₀} {xs = xs} {i = i} {n = n} have room h =
-    rw have.first (room_after of₀ (take i xs) (length xs) n room (omega (arith, length-take-le i xs (omega arith))))
+-- what a loop keeps: the cards that are left bring the counters to what all come to, and there is room for them
+pub record Left (all cards of : List ℕ) : Type 0 where
+  pub come_to : counted_all of cards ≡ all
+  pub room : Room of (length cards)
+
+left_behind : {all of next : List ℕ} (first rest : List ℕ) → Left all (first ++ rest) of → next ≡ counted_all of first → Left all rest next
+left_behind {of = of} first rest left counts =
+    rw counts (record { come_to = sym (counted-append of first rest) ∙ left.come_to; room = room_after of first (length (first ++ rest)) (length rest) left.room (omega (arith, length-append first rest)) })
+
+-- one card more, and a chunk of them
+pub left_next : {all of next : List ℕ} (xs : List ℕ) (i : ℕ) → i < length xs → Left all (drop i xs) of → next ≡ counted of (get_or xs i 0) → Left all (drop (i + 1) xs) next
+unfolding counted_all
+left_next {all = all} {of = of} xs i h left counts =
+    left_behind (get_or xs i 0 ∷ []) (drop (i + 1) xs) (subst (λ (l : List ℕ). Left all l of) (rw add-one (drop-cons xs i 0 h)) left) counts
+
+pub left_chunk : {all of next : List ℕ} (xs : List ℕ) (i n : ℕ) → Left all (drop i xs) of → next ≡ counted_all of (take n (drop i xs)) → Left all (drop (i + n) xs) next
+left_chunk {all = all} {of = of} xs i n left counts =
+    left_behind (take n (drop i xs)) (drop (i + n) xs)
+    (subst (λ (l : List ℕ). Left all l of) (sym (ap (λ (l : List ℕ). take n (drop i xs) ++ l) (sym (drop-drop n i xs)) ∙ take-append-drop n (drop i xs))) left) counts
 
 -- counters that begin with zero: their room, and what they come to
 zeros : (n b : ℕ) → get_or {A = ℕ} (replicate n 0) b 0 ≡ 0

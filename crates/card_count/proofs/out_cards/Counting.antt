@@ -1,21 +1,17 @@
 -- Laws of counted cards: what is counted next, and the room that is left.
 use mathlib.Core.Path.{◌≡◌, refl, sym, ap, ◌∙◌}
 use mathlib.Core.List.{List, ◌++◌}
-use Prim.Native.Nat.{ℕ, ◌+◌, ◌*◌, ◌≤◌, ◌<◌, min}
+use Prim.Native.Nat.{ℕ, ◌+◌, ◌*◌, ◌≤◌, ◌<◌}
 use native.Mathlib.Nat.{mul-add, mul-one}
 use native.Mathlib.Omega.{arith}
-use lib.ListN.{length, get_or, take, length-append, length-take}
+use lib.ListN.{length, get_or, take, length-append}
 use Rattle.lists.specs.Flat.{flat}
 use Rattle.lists.proofs.Flats.{flat-next}
-use Rattle.lists.proofs.Takes.{take_clamped}
 use Rattle.card_count.specs.Aids.Counters.{counted_all, Room}
 use Rattle.card_count.proofs.counters.Counts.{counted-append, room_after}
 use Rattle.card_count.specs.Aids.Counted.{Counted}
 
--- room for fewer cards, and what counted cards leave of it
-pub room-less : {a : List ℕ} {n : ℕ} (m : ℕ) → Room a n → m ≤ n → Room a m
-room-less m room h = record { each_byte = room.each_byte; fits = λ b. omega (arith, room.fits b) }
-
+-- what counted cards leave of the room
 pub counted-room : {a b xs : List ℕ} {k most : ℕ} (n m : ℕ) → Room a n → Counted a b xs k most → most + m ≤ n → Room b m
 counted-room {a} {b} {xs} n m room e h = rw e.counters (room_after a xs n m room (omega arith))
 

@@ -1,5 +1,5 @@
 -- A seat's hands in use, as a loop over its places sees them: what it adds up hand by hand, and how much a seat can have laid and won in prizes.
-use mathlib.Core.Path.{◌≡◌, ap, ◌∙◌}
+use mathlib.Core.Path.{◌≡◌, ◌∙◌}
 use mathlib.Core.Bool.{cond}
 use Prim.Native.Nat.{ℕ, ◌+◌, ◌*◌, ◌≤◌, ◌<◌, min}
 use native.Mathlib.Nat.{mul-le-mul_left}
@@ -7,7 +7,6 @@ use native.Mathlib.Numerals.{add-one}
 use native.Mathlib.Omega.{arith}
 use lib.Dec.{eqb}
 use lib.ListN.{length, take, get_or, length-map}
-use lib.Seq.{take_all}
 use Rattle.lists.specs.Sum.{sum_of}
 use Rattle.lists.proofs.Picks.{cond_most}
 use Rattle.std.specs.List.{sum_by}
@@ -32,10 +31,6 @@ module _ (f : Played → ℕ) (s : SeatHands) (full : length s.places ≡ 4) whe
   next-hand i h =
       let within : i < length (hands_of s) = omega (arith, many_hands s full) in
       rw (add-one, sum-take f (hands_of s) i (played_of none), hand_at s i none (omega arith))
-
-  -- all of them
-  pub every_hand : (n : ℕ) → min s.many 4 ≤ n → sum_of f (take n (hands_of s)) ≡ sum_of f (hands_of s)
-  every_hand n h = ap (sum_of f) (take_all n (hands_of s) (omega (arith, many_hands s full)))
 
   pub hands_most : (k : ℕ) → ((h : Played) → f h ≤ k) → sum_of f (hands_of s) ≤ 4 * k
   hands_most k most =

@@ -1,24 +1,14 @@
--- The hands of the seats of a table: nine lists, of which each is found at its seat.
+-- The hands of the seats of a table: nine lists, and the first of them in which a hand waits.
 use mathlib.Core.Path.{◌≡◌, sym, ◌∙◌, ap}
-use mathlib.Core.Bool.{Bool, true, false}
-use mathlib.Core.List.{List, []}
-use Prim.Native.Nat.{ℕ, ◌+◌, ◌<◌}
-use native.Mathlib.Numerals.{add-one}
-use native.Mathlib.Omega.{arith}
+use Prim.Native.Nat.{ℕ}
 use lib.Dec.{ltb}
-use lib.ListN.{length, take, get_or, length-map, get_or-map}
-use lib.Seq.{take_all}
-use Rattle.lists.specs.Tests.{any_of, first_place}
-use Rattle.lists.proofs.Tests.{any_take, first_here, first-none, first_inside}
-use Rattle.rules.specs.SeatHand.{Played}
+use lib.ListN.{length, length-map}
+use Rattle.lists.proofs.Tests.{first_inside}
 use Rattle.table.specs.declared.Table.{Table}
-use Rattle.table.specs.Seat.{missing_seat, hands}
-use Rattle.table.specs.Table.{seat_at, seats_hands, up}
+use Rattle.table.specs.Seat.{hands}
+use Rattle.table.specs.Table.{seats_hands, up}
 use Rattle.rules.specs.Turn.{seat_waits}
 use Rattle.state.specs.Turn.{seat_in_turn, any_waits}
-
-pub hands_of_lem : (t : Table) (i : ℕ) → get_or (seats_hands t) i [] ≡ hands (seat_at t i)
-hands_of_lem t i = get_or-map hands t.seats i missing_seat
 
 module _ (t : Table) (full : length t.seats ≡ 9) where
   pub nine_seats_lem : length (seats_hands t) ≡ 9

@@ -1,37 +1,34 @@
--- Past the count there is no list; else it is picked, and the sum is that of the table behind it.
-use mathlib.Core.Path.{◌≡◌, ◌∙◌, ap}
+-- Past the count there is no list; else it is picked, and the sum is that of the table behind it, on which close is accepted.
+use mathlib.Core.Path.{◌≡◌, sym, ◌∙◌, ap, ap₂}
 use native.Mathlib.Omega.{arith}
-use lib.ListN.{length, get_or}
-use mathlib.Core.List.{[]}
+use lib.ListN.{length}
+use borrow.Author.Rules.{rules}
 use mir.Syntax.{w64}
+use mir.Val.{SFits}
 use mir.ValLaws.{to_z-of_z}
 use Rattle.call.specs.declared.At.{At}
-use Rattle.engine.specs.Run.{run}
-use Rattle.ways.specs.Decisions.{plays}
+use Rattle.table.specs.declared.Table.{Table}
 use Rattle.ways.specs.Ways.{ways, ways_from}
 use Rattle.ways.specs.Sum.{end_sum}
-use Rattle.ways.proofs.Given.{number-whole, way_past, way_found}
+use Rattle.ways.proofs.Given.{number-unbroken, way_past, way_found}
+use Rattle.ways.proofs.counted_way.Goals.{After-count_from}
 use Rattle.ways.proofs.counted_way.Goals as goal
 
-pub count_from-requires : goal.count_from-requires
-count_from-requires c = record { whole = number-whole c.args.t c.table_shape.ensures c.requires; few = omega arith }
+all : (c : After-count_from) → c.count_from.result ≡ length (ways c.args.t)
+all c = c.count_from.ensures ∙ ap₂ (λ (at : At) (u : Table). length (ways_from 8 at u)) c.player-at.ensures c.new-whole.ensures
 
-pub returns-then-count_from-place : goal.returns-then-count_from-place
-returns-then-count_from-place c =
-    let a = c.args in
-    let all : c.count_from.result ≡ length (ways a.t) = c.count_from.ensures ∙ ap (λ (at : At). length (ways_from 8 at a.t)) c.player-at.ensures in
-    c.no_way.ensures ∙ way_past a.t a.place c.requires (omega (arith, all, c.if-count_from-place.true))
+pub new-whole-requires : goal.new-whole-requires
+new-whole-requires c = number-unbroken c.args.t (sym c.in_ok-check_ways.ensures)
 
-pub pick_list-p-requires : goal.pick_list-p-requires
-pick_list-p-requires c =
-    record { whole = number-whole c.args.t c.table_shape.ensures c.requires; inside = omega (arith, c.count_from.ensures, c.if-count_from-place.false) }
+pub returns-then-count_from-place-clause-way : goal.returns-then-count_from-place-clause-way
+returns-then-count_from-place-clause-way c =
+    let many = all (goal.at.returns-then-count_from-place-clause-way c).After-count_from in
+    c.no_way.ensures ∙ way_past c.args.t c.args.place (sym c.in_ok-check_ways.ensures) (omega (arith, many, c.if-count_from-place.true))
 
-pub returns : goal.returns
-returns c =
-    let a = c.args in
-    let ends = c.pick_list-p.ensures in
-    let same = c.player-at.ensures in
-    let all : c.count_from.result ≡ length (ways a.t) = c.count_from.ensures ∙ ap (λ (at : At). length (ways_from 8 at a.t)) same in
-    way_found a.t a.place c.requires (omega (arith, all, c.if-count_from-place.false)) _ _
-    (ends.list ∙ ap (λ (at : At). get_or (ways_from 8 at a.t) a.place []) same)
-    (to_z-of_z w64 c.end_sum.result (record { sfits = c.end_sum.type_inv }) ∙ c.end_sum.ensures ∙ ap end_sum ends.behind ∙ ap (λ (at : At). end_sum (run a.t (plays at (get_or (ways_from 8 at a.t) a.place [])))) same)
+pub returns-clause-way : goal.returns-clause-way
+returns-clause-way c =
+    let many = all (goal.at.returns-clause-way c).After-count_from in
+    let ends = rw (c.new-whole.ensures, c.player-at.ensures) at c.pick_list-p.ensures in
+    let fits : SFits w64 c.in_ok-sum.sum = search rules in
+    way_found c.args.t c.args.place (sym c.in_ok-check_ways.ensures) (omega (arith, many, c.if-count_from-place.false)) _ _ ends.list
+    (to_z-of_z w64 c.in_ok-sum.sum fits ∙ c.in_ok-sum.ensures.sum ∙ ap end_sum ends.behind)

@@ -3,7 +3,6 @@ use Rattle.std.specs.Prelude.{◌≡◌, [], ◌∷◌, ℕ, suc, ◌<◌, lengt
 use Rattle.call.specs.declared.At.{At}
 use Rattle.call.specs.declared.Call.TheVariants.{Close}
 use Rattle.table.specs.declared.Table.{Table}
-use Rattle.books.specs.Laws.{Whole}
 use Rattle.engine.specs.Step.{number, next}
 use Rattle.engine.specs.Run.{run}
 use Rattle.ways.specs.declared.pick.Onward.{Onward}
@@ -22,5 +21,4 @@ pub record GoesOn (t : Table) (at : At) (left place : ℕ) (r : Onward) : Type 0
 pub record Ends (t : Table) (at : At) (place : ℕ) (r : Picked) : Type 0 where
   pub list : take r.length r.decisions ≡ get_or (ways_from 8 at t) place []
   pub behind : r.table ≡ run t (plays at (get_or (ways_from 8 at t) place []))
-  pub whole : Whole r.table
   pub ends : number r.table Close [] ≡ 0

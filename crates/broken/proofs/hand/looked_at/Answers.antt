@@ -1,12 +1,12 @@
 -- `looked_at` goes hand by hand: before each turn it holds what the hands before it decide and come to, and neither sum is more than stakes of 32 bits can be.
-use mathlib.Core.Path.{◌≡◌, ap, ap₂, ◌∙◌}
+use mathlib.Core.Path.{◌≡◌, ap, ap₂}
 use mathlib.Core.Bool.{◌&&◌}
 use mathlib.Core.List.{List}
 use Prim.Native.Nat.{ℕ, ◌<◌, min}
 use native.Mathlib.Numerals.{add-one}
 use native.Mathlib.Omega.{arith}
 use lib.ListN.{length, take, get_or, length-take}
-use lib.Seq.{take_all, get_or-take}
+use lib.Seq.{get_or-take}
 use Rattle.lists.specs.Sum.{sum_of}
 use Rattle.lists.specs.Tests.{all_of}
 use Rattle.lists.proofs.Tests.{all_take}
@@ -18,7 +18,7 @@ use Rattle.payment.specs.Wager.{wager}
 use Rattle.payment.specs.Prize.{prize}
 use Rattle.payment.proofs.Bounds.{wager_bounds, prize_most}
 use Rattle.table.specs.Broken.{sound_hand}
-use Rattle.money.proofs.seat_money.Hands.{next-hand, every_hand}
+use Rattle.money.proofs.seat_money.Hands.{next-hand}
 use borrow.Author.Rules.{rules}
 use Rattle.broken.proofs.hand.looked_at.Goals as goal
 
@@ -67,16 +67,3 @@ loop-h-preserved c =
       omega (arith, laid),
       omega (arith, won),
     )
-
-pub returns : goal.returns
-returns c =
-    let a = c.args in
-    let s = a.s in
-    let i = c.loop-h.h-index in
-    let items = ap length c.in_use-h-items.ensures in
-    let full : length s.places ≡ 4 = search rules in
-    record {
-      each = c.loop-h.invariant.0 ∙ ap (all_of (sound_hand a.o a.up s.many)) (take_all i (take s.many s.places) (omega (arith, items)));
-      wagers = c.loop-h.invariant.1 ∙ every_hand (wager a.stake) s full i (omega (arith, items, length-take s.many s.places));
-      prizes = c.loop-h.invariant.2 ∙ every_hand (prize a.o a.stake) s full i (omega (arith, items, length-take s.many s.places));
-    }

@@ -1,11 +1,8 @@
 -- A guest without money is sound exactly if the seat's number permits it, and has no sums.
-use mathlib.Core.Path.{sym, ◌∙◌, subst}
-use Rattle.table.specs.declared.Seat.{Seat}
+use mathlib.Core.Path.{sym, ◌∙◌}
 use Rattle.table.proofs.Facts.{nothing_facts}
-use Rattle.money.specs.Sums.{guest_sums}
 use Rattle.table.specs.Seat.{guest_at}
-use Rattle.broken.specs.Aids.Surveyed.{Surveyed}
-use Rattle.broken.proofs.seat.Guests.{of_tested, passes, empty-surveyed}
+use Rattle.broken.proofs.seat.Guests.{of_tested, empty-surveyed}
 use Rattle.broken.proofs.seat.surveyed_other.Goals as goal
 
 pub returns-then-no_money : goal.returns-then-no_money
@@ -16,9 +13,3 @@ returns-then-no_money c =
     rw c.then_some.ensures (of_tested _ _ 1 (record { sound = c.sound_number.result; sums = c.no_sums.result })
     (empty-surveyed a.r.options a.r.dealt a.r.up a.i guest.result (guest_at a.s a.p) c.sound_number.result c.no_sums.result
     guest.ensures none bets c.sound_number.ensures c.no_sums.ensures))
-
-pub returns-else-no_money : goal.returns-else-no_money
-returns-else-no_money c =
-    let a = c.args in
-    let guest = c.guest_at-g in
-    subst (λ (g : Seat). Surveyed (passes a.r.options a.r.dealt a.r.up a.i g) (guest_sums a.r.options g) 1 c.surveyed_guest.result) guest.ensures c.surveyed_guest.ensures

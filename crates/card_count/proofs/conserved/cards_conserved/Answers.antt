@@ -1,5 +1,5 @@
 -- The counters that hold the cards left and the discards have room for the hands' cards; those counted beside, what is out is what was drawn.
-use mathlib.Core.Path.{refl, sym, ◌∙◌}
+use mathlib.Core.Path.{refl}
 use native.Mathlib.Omega.{arith}
 use Rattle.card_count.specs.Aids.Counters.{no_counts}
 use Rattle.card_count.proofs.conserved.Beside.{room-kept}
@@ -14,11 +14,3 @@ count_seats-hands-requires c =
     let valid = c.order_sound.ensures.counters c.if-not-order_sound.false in
     let t = c.args.t in
     room-kept c.order_sound.new.of t.options.decks t.shoe.order t.shoe.drawn t.shoe.discarded 720 valid.left (omega arith)
-
-pub out_is_drawn-requires : goal.out_is_drawn-requires
-out_is_drawn-requires c =
-    let valid = c.order_sound.ensures.counters c.if-not-order_sound.false in
-    record { before = c.order_sound.new.of; valid = valid; counted = c.count_seats-hands.ensures }
-
-pub returns : goal.returns
-returns c = simp (sym c.order_sound.ensures.tests ∙ c.if-not-order_sound.false) c.out_is_drawn.ensures

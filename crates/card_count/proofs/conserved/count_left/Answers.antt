@@ -14,10 +14,6 @@ use Rattle.card_count.proofs.conserved.count_left.Goals as goal
 from_none : {of after : List ℕ} (cards : List ℕ) → of ≡ no_counts → after ≡ counted_all of cards → after ≡ counted_all no_counts cards
 from_none cards none e = e ∙ ap (λ (l : List ℕ). counted_all l cards) none
 
-pub slice_bounds-count-end : goal.slice_bounds-count-end
-slice_bounds-count-end c =
-    omega (arith, c.requires.fits.array, c.requires.fits.order)
-
 pub count-requires : goal.count-requires
 count-requires c =
     let cards = c.args.sh.now.order in
@@ -25,11 +21,6 @@ count-requires c =
     let few : length (take n (drop c.args.sh.now.drawn cards)) ≤ 65535
     = omega (arith, length-take n (drop c.args.sh.now.drawn cards), c.requires.fits.order) in
     rw c.requires.none (room-zeros _ few)
-
-pub slice_bounds-count-end-2 : goal.slice_bounds-count-end-2
-slice_bounds-count-end-2 c =
-    let a = c.args in
-    sym (length-take-le a.sh.now.discarded a.sh.now.order (omega (arith, c.requires.fits.array, c.requires.fits.order, c.requires.fits.drawn, c.requires.fits.discarded)))
 
 pub count-requires-2 : goal.count-requires-2
 count-requires-2 c =

@@ -1,6 +1,6 @@
 -- Each test is one of the definition's; an order that the array has no room for is not valid, and the discards of a shoe have room where they are drawn.
 use mathlib.Core.Path.{◌≡◌, sym, ◌∙◌}
-use mathlib.Core.Bool.{Bool, true, false, true≢false, ◌&&◌, and-true, and-false}
+use mathlib.Core.Bool.{true, ◌&&◌, and-true, and-false}
 use Prim.Native.Nat.{◌*◌}
 use native.Mathlib.Omega.{arith}
 use borrow.Author.Tests.{eqb-true, le-leb, lt-leb}
@@ -17,7 +17,6 @@ use Rattle.table.specs.Table.{table_order}
 use Rattle.card_count.specs.Aids.Left.{OrderFits}
 use Rattle.card_count.proofs.valid_order.Orders.{too_short}
 use borrow.Author.Rules.{rules}
-use Rattle.card_count.proofs.conserved.order_sound.Goals.{Start}
 use Rattle.card_count.proofs.conserved.order_sound.Goals as goal
 
 -- what the comparison of the discards gives
@@ -39,50 +38,31 @@ order_decides t within first =
       and-true,
     ))
 
--- a test that fails leaves nothing to say of the counters
-refused : {A : Type 0} (test : Bool) → test ≡ false → (false ≡ test) × (false ≡ true → A)
-refused test e = (sym e, λ f. absurd (true≢false (sym f)))
-
-order-whole : (c : Start) → length c.args.t.shoe.order ≡ 416
-order-whole c = search rules
-
-pub returns-then-all-gt416 : goal.returns-then-all-gt416
+pub returns-then-all-gt416-clause-tests : goal.returns-then-all-gt416-clause-tests
 unfolding sound_shoe
-returns-then-all-gt416 c =
+returns-then-all-gt416-clause-tests c =
     let t = c.args.t in
-    let full = order-whole (goal.at.returns-then-all-gt416 c).Start in
-    let both = refused (sound_shoe t && sound_discards t) (simp (too_short t.options.decks (52 * t.options.decks) t.shoe.order (omega arith))) in
-    record { tests = both.0; counters = both.1 }
+    let full : length t.shoe.order ≡ 416 = search rules in
+    simp (too_short t.options.decks (52 * t.options.decks) t.shoe.order (omega arith))
 
-pub returns-then-all-shoe : goal.returns-then-all-shoe
+pub returns-then-all-shoe-clause-tests : goal.returns-then-all-shoe-clause-tests
 unfolding sound_shoe
-returns-then-all-shoe c =
-    let t = c.args.t in
-    let both = refused (sound_shoe t && sound_discards t) (simp (lt-leb t.shoe.drawn (52 * t.options.decks) (omega arith), and-false)) in
-    record { tests = both.0; counters = both.1 }
+returns-then-all-shoe-clause-tests c = let t = c.args.t in simp (lt-leb t.shoe.drawn (52 * t.options.decks) (omega arith), and-false)
 
-pub returns-then-shoe : goal.returns-then-shoe
+pub returns-then-shoe-clause-tests : goal.returns-then-shoe-clause-tests
 unfolding sound_discards
-returns-then-shoe c =
-    let t = c.args.t in
-    let both = refused (sound_shoe t && sound_discards t) (simp (lt-leb t.shoe.discarded t.shoe.drawn (omega arith), and-false)) in
-    record { tests = both.0; counters = both.1 }
+returns-then-shoe-clause-tests c = let t = c.args.t in simp (lt-leb t.shoe.discarded t.shoe.drawn (omega arith), and-false)
 
-pub returns-then-not-discards_first : goal.returns-then-not-discards_first
+pub returns-then-not-discards_first-clause-tests : goal.returns-then-not-discards_first-clause-tests
 unfolding sound_discards
-returns-then-not-discards_first c =
-    let t = c.args.t in
-    let both = refused (sound_shoe t && sound_discards t) (simp (sym c.discards_first.ensures ∙ c.if-not-discards_first.true, and-false)) in
-    record { tests = both.0; counters = both.1 }
+returns-then-not-discards_first-clause-tests c = simp (sym c.discards_first.ensures ∙ c.if-not-discards_first.true, and-false)
 
-pub count_left-requires : goal.count_left-requires
-count_left-requires c =
-    record { none = c.requires; fits = record { array = order-whole (goal.at.count_left-requires c).Start; order = c.if-all-gt416.false; drawn = c.if-all-shoe.false; discarded = c.if-shoe.false } }
+pub returns-clause-tests : goal.returns-clause-tests
+returns-clause-tests c = c.order_valid.ensures ∙ order_decides c.args.t c.count_left.ensures.within (sym c.discards_first.ensures ∙ c.if-not-discards_first.false)
 
-pub returns : goal.returns
-returns c =
+pub returns-clause-counters : goal.returns-clause-counters
+returns-clause-counters c e =
     let t = c.args.t in
+    let order : length t.shoe.order ≡ 416 = search rules in
     let discards : length t.shoe.discards ≡ 416 = search rules in
-    let first : all_below (λ k. eqb (get_or t.shoe.discards k 0) (get_or t.shoe.order k 0)) t.shoe.discarded ≡ true =
-    sym c.discards_first.ensures ∙ c.if-not-discards_first.false in
-    let valid : c.order_valid.result ≡ valid_order t.options.decks (table_order t) = c.order_valid.ensures in record { tests = valid ∙ order_decides t c.count_left.ensures.within first; counters = λ e. record { left = c.count_left.ensures; valid = sym valid ∙ e; discards = discards_are t.shoe (discards ∙ sym (order-whole (goal.at.returns c).Start)) first } }
+    record { left = c.count_left.ensures; valid = sym c.order_valid.ensures ∙ e; discards = discards_are t.shoe (discards ∙ sym order) (sym c.discards_first.ensures ∙ c.if-not-discards_first.false) }

@@ -7,10 +7,6 @@ use Rattle.card_count.specs.Aids.Left.{left_and_first}
 use Rattle.card_count.proofs.conserved.Beside.{room-kept, count-rest, drawn-decide}
 use Rattle.card_count.proofs.conserved.order_valid.Goals as goal
 
-pub slice_bounds-count-end : goal.slice_bounds-count-end
-slice_bounds-count-end c =
-    omega (arith, c.requires.within.array, c.requires.within.order, c.requires.within.drawn)
-
 pub count-requires : goal.count-requires
 count-requires c =
     let a = c.args in

@@ -1,10 +1,7 @@
 -- The cards in play are the hands' and the bank's, counted one behind the other.
 use native.Mathlib.Omega.{arith}
-use Rattle.card_count.proofs.out_cards.Counting.{room-less, counted-room, counted_join}
+use Rattle.card_count.proofs.out_cards.Counting.{counted-room, counted_join}
 use Rattle.card_count.proofs.out_cards.count_in_play.Goals as goal
-
-pub count_seats-hands-requires : goal.count_seats-hands-requires
-count_seats-hands-requires c = room-less 720 c.requires (omega arith)
 
 pub count_hand-requires : goal.count_hand-requires
 count_hand-requires c =

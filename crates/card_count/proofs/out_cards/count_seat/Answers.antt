@@ -24,9 +24,6 @@ count_hand-many-requires c =
     let items = ap length c.in_use-h-items.ensures in
     counted-room 80 20 c.requires c.loop-h.invariant (omega (arith, items))
 
-pub overflow_add-many : goal.overflow_add-many
-overflow_add-many c = omega arith
-
 pub loop-h-preserved : goal.loop-h-preserved
 loop-h-preserved c =
     let s = c.args.s in

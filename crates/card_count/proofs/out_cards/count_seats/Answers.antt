@@ -1,18 +1,17 @@
 -- `count_seats` goes seat by seat: before each turn the cards of the first i seats are counted.
-use mathlib.Core.Path.{◌≡◌, refl, sym, ap, ◌∙◌}
+use mathlib.Core.Path.{◌≡◌, refl, sym, ◌∙◌}
 use mathlib.Core.List.{List, map}
 use Prim.Native.Nat.{ℕ, ◌<◌}
 use native.Mathlib.Nat.{add-zero}
 use native.Mathlib.Omega.{arith}
 use lib.ListN.{length, get_or, take}
-use lib.Seq.{take_all}
 use Rattle.lists.specs.Flat.{flat}
 use Rattle.rules.specs.declared.seat_hand.SeatHand.{SeatHand}
 use Rattle.rules.specs.SeatHand.{played_of}
 use Rattle.table.specs.Seat.{missing_seat, seat_cards}
 use Rattle.card_count.specs.Aids.Counters.{counted_all}
 use Rattle.card_count.specs.Aids.Counted.{Counted}
-use Rattle.card_count.proofs.out_cards.Counting.{counted_none, counted_next, counted-room, counted_is, counted-at}
+use Rattle.card_count.proofs.out_cards.Counting.{counted_none, counted_next, counted-room, counted-at}
 use borrow.Author.Rules.{rules}
 use Rattle.card_count.proofs.out_cards.count_seats.Goals as goal
 use Rattle.card_count.proofs.out_cards.count_seats.Goals.{then-s-ne0, else-s-ne0}
@@ -43,9 +42,3 @@ loop-s-preserved c =
           counted-at w.of-is (w.many-is ∙ sym (add-zero at.many))
           (counted_next seat_cards t.seats 80 at.s-index missing_seat below at.invariant (no_hand at.of s.hands.many s.hands.places (omega (arith, w.if-s-ne0.false))))
     ]
-
-pub returns : goal.returns
-returns c =
-    let t = c.args.t in
-    let full : length t.seats ≡ 9 = search rules in
-    counted_is c.loop-s.invariant (ap (flat seat_cards) (take_all c.loop-s.s-index t.seats (omega arith))) (omega arith)

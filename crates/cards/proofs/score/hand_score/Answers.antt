@@ -5,7 +5,7 @@ use native.Mathlib.Omega.{arith}
 use lib.ListN.{length, length-take}
 use Rattle.cards.specs.declared.hand.Hand.{Hand}
 use Rattle.cards.specs.Hand.{cards_of}
-use Rattle.cards.proofs.total.Bounds.{low_le_total, total-most}
+use Rattle.cards.proofs.total.Bounds.{total-most}
 use borrow.Author.Rules.{rules}
 use Rattle.cards.proofs.score.hand_score.Goals as goal
 
@@ -17,12 +17,3 @@ overflow_cast-result c =
     let h = c.args.h in
     let full : length h.cards ≡ 20 = search rules in
     omega (arith, c.total-all.ensures, total-most (cards_of h), few h full)
-
-pub overflow_add-result : goal.overflow_add-result
-overflow_add-result c =
-    let h = c.args.h in
-    let full : length h.cards ≡ 20 = search rules in
-    omega (arith, c.low_sum-low.ensures, low_le_total (cards_of h), total-most (cards_of h), few h full)
-
-pub returns : goal.returns
-returns c = rw (c.total-all.ensures, c.low_sum-low.ensures)

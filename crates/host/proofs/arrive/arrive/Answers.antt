@@ -1,19 +1,10 @@
 -- Why it is refused, or the effect; an accepted arrival names one of the nine seats and of the three positions.
-use mathlib.Core.Path.{sym, ◌∙◌, ap}
+use mathlib.Core.Path.{sym, ap}
 use native.Mathlib.Omega.{arith}
-use Rattle.call.specs.declared.refusal.Refusal.TheVariants.{Broken}
 use Rattle.host_spec.specs.Cards.{place_at, with_card}
-use Rattle.host_spec.specs.Arrive.{arrive_conditions}
-use Rattle.host.proofs.Outcomes.{host_refused, host_met, host_accepted_lem, broken-first}
+use Rattle.host.proofs.Outcomes.{host_met, host_accepted_lem}
 use Rattle.host.proofs.arrive.Laws.{arrive_inside}
 use Rattle.host.proofs.arrive.arrive.Goals as goal
-
-pub returns-then-host_broken : goal.returns-then-host_broken
-unfolding arrive_conditions
-returns-then-host_broken c = host_refused _ _ _ Broken (broken-first _ _ (sym c.host_broken.ensures ∙ c.if-host_broken.true))
-
-pub check_arrive-requires : goal.check_arrive-requires
-check_arrive-requires c = sym c.host_broken.ensures ∙ c.if-host_broken.false
 
 pub returns-in_err-check_arrive : goal.returns-in_err-check_arrive
 returns-in_err-check_arrive c = host_met _ _ _ _ _ c.from_residual.ensures.1 c.in_err-check_arrive.ensures

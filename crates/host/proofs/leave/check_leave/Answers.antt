@@ -1,4 +1,4 @@
--- 4 and 29 are asked first; then the stake is asked for where the card sits.
+-- 1, 4 and 29 are asked first; then the stake is asked for where the card sits.
 use Rattle.std.proofs.Common.{◌≡◌, ◌∙◌, ◌/◌, ◌%◌, false, true, sym, ap, arith}
 use Rattle.std.specs.Prelude.{Some, None}
 use borrow.Author.Tests.{lt-ltb, le-ltb}
@@ -7,6 +7,8 @@ use Rattle.table.specs.declared.Seat.{Seat}
 use Rattle.table.specs.Seat.{guest_at}
 use Rattle.table.specs.Table.{guest_of}
 use Rattle.host_spec.specs.Cards.{place_of, sits_here}
+use Rattle.host_spec.specs.Leave.{leave_conditions}
+use Rattle.host.proofs.Outcomes.{broken-first}
 use Rattle.host.proofs.leave.Laws.{place-found, place_nowhere, leave_dealt, leave_absent, leave-asked}
 use Rattle.host.proofs.leave.check_leave.Goals.{In_ok-place, After-guest_money-money}
 use Rattle.host.proofs.leave.check_leave.Goals as goal
@@ -19,25 +21,29 @@ found c =
 money : (c : After-guest_money-money) → c.guest_money-money.result ≡ (guest_of c.args.h.table (c.in_ok-place.place / 3) (c.in_ok-place.place % 3)).money
 money c = c.guest_money-money.ensures ∙ ap (λ (s : Seat). (guest_at s (c.in_ok-place.place % 3)).money) c.seat_at-s.ensures
 
+pub returns-then-host_broken-clause-number : goal.returns-then-host_broken-clause-number
+unfolding leave_conditions
+returns-then-host_broken-clause-number c = broken-first _ _ (sym c.host_broken.ensures ∙ c.if-host_broken.true)
+
 pub returns-then-is_dealt-clause-number : goal.returns-then-is_dealt-clause-number
-returns-then-is_dealt-clause-number c = leave_dealt c.args.h c.args.card c.requires (sym c.is_dealt.ensures ∙ c.if-is_dealt.true)
+returns-then-is_dealt-clause-number c = leave_dealt c.args.h c.args.card (sym c.host_broken.ensures ∙ c.if-host_broken.false) (sym c.is_dealt.ensures ∙ c.if-is_dealt.true)
 
 pub returns-in_err-place-clause-number : goal.returns-in_err-place-clause-number
 returns-in_err-place-clause-number c =
     let a = c.args in
     let none : c.find_card.result ≡ None = grind arith in
     let why : number_in c.from_residual.result ≡ 29 = grind arith in
-    why ∙ leave_absent a.h a.card c.requires (sym c.is_dealt.ensures ∙ c.if-is_dealt.false) (place_nowhere a.h a.card (sym c.find_card.ensures ∙ none))
+    why ∙ leave_absent a.h a.card (sym c.host_broken.ensures ∙ c.if-host_broken.false) (sym c.is_dealt.ensures ∙ c.if-is_dealt.false) (place_nowhere a.h a.card (sym c.find_card.ensures ∙ none))
 
 pub returns-then-money-gt0-clause-number : goal.returns-then-money-gt0-clause-number
 returns-then-money-gt0-clause-number c =
     let at = goal.at.returns-then-money-gt0-clause-number c in
-    leave-asked c.args.h c.args.card c.requires c.in_ok-place.place c.guest_money-money.result true (sym c.is_dealt.ensures ∙ c.if-is_dealt.false) (found at.In_ok-place) (money at.After-guest_money-money) (lt-ltb _ _ c.if-money-gt0.true)
+    leave-asked c.args.h c.args.card (sym c.host_broken.ensures ∙ c.if-host_broken.false) c.in_ok-place.place c.guest_money-money.result true (sym c.is_dealt.ensures ∙ c.if-is_dealt.false) (found at.In_ok-place) (money at.After-guest_money-money) (lt-ltb _ _ c.if-money-gt0.true)
 
 pub returns-clause-number : goal.returns-clause-number
 returns-clause-number c =
     let at = goal.at.returns-clause-number c in
-    leave-asked c.args.h c.args.card c.requires c.in_ok-place.place c.guest_money-money.result false (sym c.is_dealt.ensures ∙ c.if-is_dealt.false) (found at.In_ok-place) (money at.After-guest_money-money) (le-ltb _ _ c.if-money-gt0.false)
+    leave-asked c.args.h c.args.card (sym c.host_broken.ensures ∙ c.if-host_broken.false) c.in_ok-place.place c.guest_money-money.result false (sym c.is_dealt.ensures ∙ c.if-is_dealt.false) (found at.In_ok-place) (money at.After-guest_money-money) (le-ltb _ _ c.if-money-gt0.false)
 
 pub returns-clause-found : goal.returns-clause-found
 returns-clause-found c = sym (found (goal.at.returns-clause-found c).In_ok-place).0

@@ -1,21 +1,12 @@
 -- Why it is refused, or the effect; the card of an accepted leaving sits at one of the 27 places.
-use mathlib.Core.Path.{◌≡◌, sym, ◌∙◌, ap₂}
+use mathlib.Core.Path.{◌≡◌, sym, ap₂}
 use native.Mathlib.Omega.{arith}
 use lib.ListN.{length}
 use borrow.Author.Rules.{rules}
-use Rattle.call.specs.declared.refusal.Refusal.TheVariants.{Broken}
 use Rattle.host_spec.specs.Cards.{with_card}
-use Rattle.host_spec.specs.Leave.{leave_conditions}
-use Rattle.host.proofs.Outcomes.{host_refused, host_met, host_accepted_lem, broken-first}
+use Rattle.host.proofs.Outcomes.{host_met, host_accepted_lem}
 use Rattle.host.proofs.leave.Laws.{left_inside}
 use Rattle.host.proofs.leave.leave.Goals as goal
-
-pub returns-then-host_broken : goal.returns-then-host_broken
-unfolding leave_conditions
-returns-then-host_broken c = host_refused _ _ _ Broken (broken-first _ _ (sym c.host_broken.ensures ∙ c.if-host_broken.true))
-
-pub check_leave-requires : goal.check_leave-requires
-check_leave-requires c = sym c.host_broken.ensures ∙ c.if-host_broken.false
 
 pub returns-in_err-place : goal.returns-in_err-place
 returns-in_err-place c = host_met _ _ _ _ _ c.from_residual.ensures.1 c.in_err-place.ensures.number

@@ -9,30 +9,30 @@ use Rattle.payment.proofs.Bounds.{wager_bounds}
 use Rattle.table.specs.Seat.{laid}
 use Rattle.money.proofs.seat_money.Hands.{no_hand, hands_most}
 use borrow.Author.Rules.{rules}
-use Rattle.money.proofs.seat_money.laid_with.Goals.{Start}
 use Rattle.money.proofs.seat_money.laid_with.Goals as goal
-
-full : (c : Start) → length c.args.s.hands.places ≡ 4
-full c = search rules
 
 pub returns-then-s-eq0 : goal.returns-then-s-eq0
 unfolding laid
 returns-then-s-eq0 c =
     let s = c.args.s in
-    simp (no_hand s.hands (full (goal.at.returns-then-s-eq0 c).Start), eq-eqb _ _ c.if-s-eq0.true) (omega (arith, c.all_sides-beside.ensures.same))
+    let full : length s.hands.places ≡ 4 = search rules in
+    simp (no_hand s.hands full, eq-eqb _ _ c.if-s-eq0.true) (omega (arith, c.all_sides-beside.ensures.same))
 
 pub overflow_add-result-else-s-eq0 : goal.overflow_add-result-else-s-eq0
 overflow_add-result-else-s-eq0 c =
     let s = c.args.s in
-    omega (arith, c.requires, hands_most (wager s.money.stake) s.hands (full (goal.at.overflow_add-result-else-s-eq0 c).Start) (2 * s.money.stake) (λ h. (wager_bounds s.money.stake h).1))
+    let full : length s.hands.places ≡ 4 = search rules in
+    omega (arith, c.requires, hands_most (wager s.money.stake) s.hands full (2 * s.money.stake) (λ h. (wager_bounds s.money.stake h).1))
 
 pub overflow_add-result-else-s-eq0-2 : goal.overflow_add-result-else-s-eq0-2
 overflow_add-result-else-s-eq0-2 c =
     let s = c.args.s in
-    omega (arith, c.requires, hands_most (wager s.money.stake) s.hands (full (goal.at.overflow_add-result-else-s-eq0-2 c).Start) (2 * s.money.stake) (λ h. (wager_bounds s.money.stake h).1), c.all_sides-beside.ensures.small)
+    let full : length s.hands.places ≡ 4 = search rules in
+    omega (arith, c.requires, hands_most (wager s.money.stake) s.hands full (2 * s.money.stake) (λ h. (wager_bounds s.money.stake h).1), c.all_sides-beside.ensures.small)
 
 pub returns-else-s-eq0 : goal.returns-else-s-eq0
 unfolding laid
 returns-else-s-eq0 c =
     let s = c.args.s in
-    simp (no_hand s.hands (full (goal.at.returns-else-s-eq0 c).Start), ne_eqb _ _ c.if-s-eq0.false) (omega (arith, c.requires, c.all_sides-beside.ensures.same))
+    let full : length s.hands.places ≡ 4 = search rules in
+    simp (no_hand s.hands full, ne_eqb _ _ c.if-s-eq0.false) (omega (arith, c.requires, c.all_sides-beside.ensures.same))

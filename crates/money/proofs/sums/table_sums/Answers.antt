@@ -1,24 +1,17 @@
 -- `table_sums` adds seat by seat: before each turn the sums are those of the first i seats, each at most one past the limit for each guest.
-use mathlib.Core.Path.{◌≡◌, refl, ◌∙◌, ap}
-use Prim.Native.Nat.{◌*◌}
+use mathlib.Core.Path.{◌≡◌, refl, ◌∙◌}
 use native.Mathlib.Omega.{arith}
 use lib.ListN.{length, get_or}
-use lib.Seq.{take_all}
 use Rattle.lists.specs.Sum.{sum_of}
 use Rattle.table.specs.Seat.{missing_seat}
-use Rattle.money.specs.Sums.{sums_over, seat_sums}
-use Rattle.money.proofs.sums.Pass.{next-seat, three_more, fits_in_lem, no_guests_fit}
+use Rattle.money.specs.Sums.{seat_sums}
+use Rattle.money.proofs.sums.Pass.{next-seat, three_more, no_guests_fit}
 use borrow.Author.Rules.{rules}
 use Rattle.money.proofs.sums.table_sums.Goals as goal
 
 pub loop-s-init : goal.loop-s-init
 unfolding sum_of
 loop-s-init c = (c.no_sums-all.ensures, rw c.no_sums-all.ensures no_guests_fit)
-
-pub with_seat_sums-all-requires : goal.with_seat_sums-all-requires
-with_seat_sums-all-requires c =
-    let full : length c.args.t.seats ≡ 9 = search rules in
-    fits_in_lem (3 * c.loop-s.s-index) 24 c.loop-s.all (omega arith) c.loop-s.invariant.1
 
 pub loop-s-preserved : goal.loop-s-preserved
 loop-s-preserved c =
@@ -29,9 +22,3 @@ loop-s-preserved c =
       c.with_seat_sums-all.ensures.same ∙ next-seat t.options t.seats i (omega arith) c.loop-s.all one c.loop-s.invariant.0 refl,
       three_more i c.loop-s.all one c.with_seat_sums-all.result c.loop-s.invariant.1 c.with_seat_sums-all.ensures.small c.with_seat_sums-all.ensures.same,
     )
-
-pub returns : goal.returns
-returns c =
-    let t = c.args.t in
-    let full : length t.seats ≡ 9 = search rules in
-    c.loop-s.invariant.0 ∙ ap (sums_over t.options) (take_all c.loop-s.s-index t.seats (omega arith))

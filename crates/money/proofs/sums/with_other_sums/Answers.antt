@@ -1,8 +1,5 @@
 -- A guest who has nothing adds nothing.
-use mathlib.Core.Path.{sym, ap, ◌∙◌, subst}
-use Rattle.table.specs.declared.Seat.{Seat}
-use Rattle.money.specs.Sums.{guest_sums, plus_sums}
-use Rattle.money.specs.SumsFit.{SumsFit}
+use mathlib.Core.Path.{sym, ◌∙◌}
 use Rattle.money.proofs.sums.Pass.{passed_over}
 use Rattle.table.specs.Seat.{guest_at}
 use Rattle.money.proofs.sums.with_other_sums.Goals as goal
@@ -12,7 +9,3 @@ returns-then-no_money c =
     let read = c.guest_money in
     let both = passed_over c.args.o c.args.all (guest_at c.args.s c.args.p) read.result read.ensures (sym c.no_money.ensures ∙ c.if-no_money.true) in
     record { same = both.0; small = both.1 }
-
-pub returns-else-no_money : goal.returns-else-no_money
-returns-else-no_money c =
-    let guest = c.guest_at in record { same = c.with_guest_sums.ensures.same ∙ ap (λ (x : Seat). plus_sums c.args.all (guest_sums c.args.o x)) guest.ensures; small = subst (λ (x : Seat). SumsFit 1 (guest_sums c.args.o x)) guest.ensures c.with_guest_sums.ensures.small }

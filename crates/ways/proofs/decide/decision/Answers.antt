@@ -30,5 +30,4 @@ pub returns-in_default : goal.returns-in_default
 unfolding decision
 returns-in_default c =
     let k = c.args.kind in
-    let rest = c.in_default.in_default-own.rest in
-    simp (ne_eqb k 8 (omega (arith, c.in_default.in_default-own)), ne_eqb k 9 (omega (arith, c.in_default.in_default-own)), ne_eqb k 10 (omega (arith, c.in_default.in_default-own)), ne_eqb k 11 (omega (arith, c.in_default.in_default-own)), ne_eqb k 13 (omega (arith, c.in_default.in_default-own)))
+    simp (ne_eqb k 8 (omega arith), ne_eqb k 9 (omega arith), ne_eqb k 10 (omega arith), ne_eqb k 11 (omega arith), ne_eqb k 13 (omega arith))

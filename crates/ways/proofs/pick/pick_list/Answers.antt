@@ -1,53 +1,35 @@
 -- Decision by decision: before each turn so many are chosen, and the list goes on as one of the table behind them. Where close is accepted it is chosen, and with eight decisions it is.
-use mathlib.Core.Path.{◌≡◌, refl, sym, ◌∙◌, subst}
-use Prim.Native.Nat.{ℕ, suc, ◌-◌, ◌<◌}
+use mathlib.Core.Path.{◌≡◌, ◌∙◌, ap, subst}
+use mathlib.Core.Bool.{not}
+use Prim.Native.Nat.{ℕ, ◌-◌, ◌<◌}
 use native.Mathlib.Omega.{arith}
 use lib.ListN.{length}
 use Rattle.ways.specs.Ways.{ways_from}
-use Rattle.ways.proofs.Picking.{none_picked, one_picked, all_picked, some_waits_lem, spent_ends}
+use Rattle.ways.proofs.Picking.{one_picked, all_picked, some_waits_lem, spent_ends}
+use Rattle.ways.proofs.Turns.{ok_number, err_number}
 use Rattle.ways.proofs.pick.pick_list.Goals as goal
+use Rattle.ways.proofs.pick.pick_list.Goals.{then-loop-length-test+else-is_err, else-loop-length-test}
 
-pub loop-length-init : goal.loop-length-init
-loop-length-init c = none_picked c.args.t c.args.at c.args.place _ refl c.requires.whole c.requires.inside
-
-pub close_number-requires : goal.close_number-requires
-close_number-requires c = c.loop-length.invariant.whole.sound
-
-pub overflow_sub-length : goal.overflow_sub-length
-overflow_sub-length c = omega arith
-
-pub first_decision-n-requires : goal.first_decision-n-requires
-first_decision-n-requires c =
-    let a = c.args in
+pub first_decision-n-requires-clause-waits : goal.first_decision-n-requires-clause-waits
+first_decision-n-requires-clause-waits c =
     let n = c.loop-length.length in
-    let now : 8 - n ≡ suc (7 - n) = omega arith in
-    let inside = subst (λ (k : ℕ). c.loop-length.rest < length (ways_from k a.at c.loop-length.table)) now c.loop-length.invariant.inside in
-    let waits = some_waits_lem (suc (7 - n)) a.at c.loop-length.table (omega arith) (λ e. c.if-close_number-eq0.false (c.close_number.ensures ∙ e)) in
-    record { whole = c.loop-length.invariant.whole; few = omega arith; waits = waits; inside = inside }
-
-pub bounds-decisions-length : goal.bounds-decisions-length
-bounds-decisions-length c = omega arith
-
-pub overflow_add-length : goal.overflow_add-length
-overflow_add-length c = omega arith
-
-pub loop-length-smaller : goal.loop-length-smaller
-loop-length-smaller c = omega arith
+    some_waits_lem (8 - n) c.args.at c.loop-length.table (omega (arith, c.loop-length.invariant.inside)) (err_number c.check_close.result c.check_close.ensures (c.is_err.ensures.negation ∙ ap not c.if-is_err.true))
 
 pub loop-length-preserved : goal.loop-length-preserved
 loop-length-preserved c =
     let a = c.args in
-    one_picked a.t a.at a.place c.loop-length.table c.loop-length.rest c.loop-length.length c.loop-length.decisions c.loop-length.invariant (omega arith) c.first_decision-n.result
+    one_picked a.t.now a.at a.place c.loop-length.table c.loop-length.rest c.loop-length.length c.loop-length.decisions c.loop-length.invariant (omega arith) c.first_decision-n.result
     c.first_decision-n.ensures
 
-pub returns-after-loop-length : goal.returns-after-loop-length
-returns-after-loop-length c =
+pub returns : goal.returns
+returns c =
     let a = c.args in
-    let done : 8 - c.loop-length.length ≡ 0 = omega (arith, c.loop-length.invariant.few) in
-    let inside = subst (λ (k : ℕ). c.loop-length.rest < length (ways_from k a.at c.loop-length.table)) done c.loop-length.invariant.inside in
-    all_picked a.t a.at a.place c.loop-length.table c.loop-length.rest c.loop-length.length c.loop-length.decisions c.loop-length.invariant (spent_ends a.at c.loop-length.table (omega arith))
-
-pub returns-then-close_number-eq0 : goal.returns-then-close_number-eq0
-returns-then-close_number-eq0 c =
-    let a = c.args in
-    all_picked a.t a.at a.place c.loop-length.table c.loop-length.rest c.loop-length.length c.loop-length.decisions c.loop-length.invariant (sym c.close_number.ensures ∙ c.if-close_number-eq0.true)
+    let u = c.loop-length.table in
+    let picked = all_picked a.t.now a.at a.place u c.loop-length.rest c.loop-length.length c.loop-length.decisions c.loop-length.invariant in
+    elim c.loop-length-test.branch [
+      | then-loop-length-test+else-is_err w ↦ picked (ok_number w.check_close.result w.check_close.ensures (w.is_err.ensures.negation ∙ ap not w.if-is_err.false))
+      | else-loop-length-test w ↦
+          let done : 8 - c.loop-length.length ≡ 0 = omega (arith, c.loop-length.invariant.few, w.loop-length-test.false) in
+          let inside = subst (λ (k : ℕ). c.loop-length.rest < length (ways_from k a.at u)) done c.loop-length.invariant.inside in
+          picked (spent_ends a.at u (omega (arith, inside)))
+    ]
