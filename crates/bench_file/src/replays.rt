@@ -1,11 +1,11 @@
 // The file checked and played, again and again.
 ghost use Rattle.std.specs.Prelude.{◌≤◌};
-ghost use Rattle.books.specs.Laws.{Whole};
 
 use call::pay_line::LINES;
 use replaying::{open_file, play_call};
 use session_file::reader::Reader;
 use table::Table;
+use table::whole::Whole;
 
 // The last table, and how many calls are still to be replayed.
 #[derive(Clone, Copy)]
@@ -15,21 +15,22 @@ pub(crate) struct Replay {
 }
 
 // The calls of a file that is not refused, from its first table on, or as many of them as are left.
-fn each(file: &[u8], first: Table, calls: u64) -> Replay
-    requires { Whole first }
-{
+fn each(file: &[u8], first: Whole, calls: u64) -> Replay {
     let mut names = [0; LINES];
     let mut nets = [0; LINES];
     let mut table = first;
     let mut left = calls;
     for handed in Reader::of_checked(file) {
         if left == 0 {
-            return Replay { table, left };
+            break;
         }
-        table = play_call(table, file, handed, &mut names, &mut nets).table;
+        play_call(&mut table, file, handed, &mut names, &mut nets);
         left -= 1;
     }
-    Replay { table, left }
+    Replay {
+        table: *table.table(),
+        left,
+    }
 }
 
 // One pass over the file; of a refused one no call is replayed.

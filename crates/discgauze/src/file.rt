@@ -45,7 +45,7 @@ pub extern "C" fn discgauze_file_options(file: &[u8]) -> Options
 pub extern "C" fn discgauze_file_opened(file: &[u8]) -> Outcome
     ensures { Opened file.now result }
 {
-    outcome_in(&empty_table(), open_file(file))
+    outcome_in(&empty_table(), open_file(file).map(|t| *t.table()))
 }
 
 // The place of the first call; the end for a refused file.

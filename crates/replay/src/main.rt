@@ -20,7 +20,7 @@ fn replay<W: Write>(out: &mut W, file: &[u8]) -> io::Result<()> {
     match open_file(file) {
         Ok(table) => {
             out.write_all(b"call no tray layout purses left\n")?;
-            row(out, "open", 0, table)?;
+            row(out, "open", 0, *table.table())?;
             each(out, file, table)
         }
         Err(why) => writeln!(out, "{}", why.number()),

@@ -15,8 +15,8 @@ use Rattle.options.specs.declared.Options.{Options}
 use Rattle.table.specs.declared.Table.{Table}
 use Rattle.table.proofs.Facts.{facts_sound}
 use Rattle.history.specs.Entry.{Entry}
-use Rattle.answer.specs.declared.reply.Reply.{Reply}
-use Rattle.answer.specs.Reply.{reply_by, given_by, given_of}
+use Rattle.answer.specs.declared.reply.Answer.{Answer}
+use Rattle.answer.specs.Reply.{reply_by, given_by}
 use Rattle.call.specs.Refusal.{first}
 use Rattle.cashier_spec.specs.Opening.{open_number, opened}
 use Rattle.cashier_spec.proofs.Opening.{open_good}
@@ -26,7 +26,7 @@ use Rattle.books.specs.Laws.{Whole}
 use Rattle.books.proofs.Keeps.{keeps}
 use Rattle.file_spec.specs.Number.{or_else, file_number}
 use Rattle.file_spec.specs.Reader.{call_place, first_place, handed_at, Reads}
-use Rattle.replaying.specs.Playing.{play_number, first_table}
+use Rattle.replaying.specs.Playing.{play_number, first_table, given_with}
 use Rattle.replaying.specs.Aids.Turns.{Rest, Left}
 
 -- the next table, accepted or refused
@@ -45,11 +45,11 @@ next-whole t c order whole = go (ℕ_discrete (number t c order) 0)
     go (yes e) = rw (next-effect t c order e) (keeps t c order whole e)
     go (no n) = rw (next-same t c order n) whole
 
--- the table of a reply that is the definition's
-pub reply_next : (t : Table) (c : Call) (order : List ℕ) (r : Reply) (names names₀ : List ℕ) (nets nets₀ : List ℤ)
-    → given_of r names nets ≡ given_by (step t c order) names₀ nets₀ → r.table ≡ next t c order
+-- the table that a step of the definition leaves
+pub left_next : (t : Table) (c : Call) (order : List ℕ) (answer : Answer) (u : Table) (names names₀ : List ℕ) (nets nets₀ : List ℤ)
+    → given_with answer u names nets ≡ given_by (step t c order) names₀ nets₀ → u ≡ next t c order
 unfolding next
-reply_next t c order r names names₀ nets nets₀ e = ap (λ g. g.table) e
+left_next t c order answer u names names₀ nets nets₀ e = ap (λ g. g.table) e
 
 pub open_whole : (o : Options) (order : List ℕ) → open_number o order ≡ 0 → Whole (opened o order)
 open_whole o order e =

@@ -151,7 +151,7 @@ fn replayed<W: Write>(
     file: &mut [u8; ROOM],
 ) -> io::Result<Desk> {
     let table = match open_file(from) {
-        Ok(table) => table,
+        Ok(table) => *table.table(),
         Err(why) => {
             writeln!(out, "{}", Said(why.number()))?;
             return Ok(d);

@@ -1,5 +1,5 @@
 -- A refused file opens nothing; of any other the first block says what its session opens with, and what it says opens.
-use mathlib.Core.Path.{◌≡◌, refl, sym, ap, ◌∙◌}
+use mathlib.Core.Path.{◌≡◌, refl, sym, ap, ◌∙◌, subst}
 use mathlib.Core.List.{List}
 use Prim.Native.Nat.{ℕ, ◌≤◌}
 use borrow.Author.Tests.{eq-eqb, ne_eqb, le-leb}
@@ -14,8 +14,12 @@ use Rattle.file_spec.specs.Number.{file_number}
 use Rattle.file_spec.specs.Handed.{file_options, file_order}
 use Rattle.file_spec.proofs.OneFile.{opens_as_read}
 use Rattle.call.proofs.Refusals.{residual, refusal_some}
-use Rattle.replaying.specs.Playing.{outcome_of}
+use Rattle.std.specs.Prelude.{Result}
+use Rattle.call.specs.declared.refusal.Refusal.{Refusal}
+use Rattle.table.specs.declared.Table.{Table}
+use Rattle.replaying.specs.Playing.{outcome_of, Opened}
 use Rattle.replaying.proofs.Plays.{open_whole, has_block, all_bytes}
+use Rattle.replaying.proofs.open_file.Goals.{After-opening, In_ok-opening}
 use Rattle.replaying.proofs.open_file.Goals as goal
 
 pub returns-in_err-check_file : goal.returns-in_err-check_file
@@ -29,8 +33,8 @@ returns-in_err-check_file c =
       whole = λ e. absurd (refusal_some why e);
     })
 
-pub returns : goal.returns
-returns c =
+opened_as : (c : After-opening) → Opened c.args.file.now (outcome_of c.opening.result)
+opened_as c =
     let file = c.args.file.now in
     let o = file_options file in
     let order = file_order file in
@@ -49,3 +53,21 @@ returns c =
       table = λ e. table;
       whole = λ e. rw table (open_whole o order number);
     }
+
+pub returns-in_err-opening : goal.returns-in_err-opening
+returns-in_err-opening c =
+    let same = residual c.from_residual-in_err-opening.result c.from_residual-in_err-opening.ensures.1 in
+    subst (λ (r : Result Table Refusal). Opened c.args.file.now (outcome_of r)) (c.in_err-opening.was ∙ sym same) (opened_as (goal.at.returns-in_err-opening c).After-opening)
+
+given : (c : In_ok-opening) → Opened c.args.file.now (outcome_of c.opening.result) → Opened c.args.file.now (make_outcome 0 c.in_ok-opening.field-0)
+given c opens = subst (λ (r : Result Table Refusal). Opened c.args.file.now (outcome_of r)) c.in_ok-opening.was opens
+
+pub new-requires : goal.new-requires
+new-requires c =
+    let at = goal.at.new-requires c in
+    ((given at.In_ok-opening (opened_as at.After-opening)).whole refl).sound
+
+pub returns : goal.returns
+returns c =
+    let at = goal.at.returns c in
+    subst (λ (t : Table). Opened c.args.file.now (make_outcome 0 t)) (sym c.new.ensures) (given at.In_ok-opening (opened_as at.After-opening))

@@ -6,7 +6,7 @@ use Rattle.engine.specs.Step.{next}
 use Rattle.file_spec.specs.Reader.{handed_at}
 use Rattle.session_file.specs.declared.reader.Reader.{Reader}
 use Rattle.session_file.specs.Reader.{order_of, handed_of}
-use Rattle.replaying.proofs.Plays.{begins, rest-next, rest_end, reply_next}
+use Rattle.replaying.proofs.Plays.{begins, rest-next, rest_end, left_next}
 use Rattle.replaying.proofs.play.Goals as goal
 
 pub loop-handed-init : goal.loop-handed-init
@@ -32,8 +32,8 @@ loop-handed-preserved c =
     let step = c.in-Some.ensures.steps in
     let handed : handed_of file at (Some h) ≡ handed_at file at = subst (λ (f : List ℕ). handed_of f at (Some h) ≡ handed_at f at) so_far.file step.handed in
     let found : (handed_at file at).found ≡ true = ap (λ v. v.found) (sym handed) in
-    let table : c.play_call.result.table ≡ next t (handed_at file at).call (handed_at file at).order
-    = reply_next t h.call (order_of file h) c.play_call.result _ _ _ _ c.play_call.ensures.step ∙ ap (λ v. next t v.call v.order) handed in
+    let table : c.play_call.new.t ≡ next t (handed_at file at).call (handed_at file at).order
+    = left_next t h.call (order_of file h) c.play_call.result c.play_call.new.t _ _ _ _ c.play_call.ensures.step ∙ ap (λ v. next t v.call v.order) handed in
     let behind : c.next.new.self.at ≡ (handed_at file at).behind = step.at ∙ ap (λ (f : List ℕ). (handed_at f at).behind) so_far.file in
     record {
       can = tt;
