@@ -11,6 +11,7 @@ use Rattle.cards.specs.declared.score.HandScore.{HandScore}
 use Rattle.table.specs.declared.Table.{Table}
 use Rattle.answer.specs.declared.outcome.Outcome.{Outcome}
 use Rattle.answer.specs.declared.scores.Scores.{Scores}
+use Rattle.answer.specs.declared.reply.Answer as code
 use Rattle.answer.specs.declared.reply.Reply.{Reply}
 use Rattle.answer.specs.Scores.{no_scores, scores_of}
 
@@ -68,9 +69,16 @@ given_of r names nets =
 abbrev pub make_reply : ℕ → Hand → ℕ → Scores → Table → Reply
 make_reply number bank lines scores table = record { answer = record { number = number; bank = bank; lines = lines; scores = scores }; table = table }
 
--- The reply of a call that shows no more than scores, and of one that shows nothing.
+-- The answer and the next table, where each lies in a place of its own.
+abbrev pub reply_of : code.Answer → Table → Reply
+reply_of answer table = record { answer = answer; table = table }
+
+-- The answer of a call that shows no more than scores, its reply, and that of a call that shows nothing.
+abbrev pub scored_answer : ℕ → Scores → code.Answer
+scored_answer number scores = record { number = number; bank = empty_hand; lines = 0; scores = scores }
+
 abbrev pub scored_reply : Outcome → Scores → Reply
-scored_reply o scores = make_reply o.number empty_hand 0 scores o.table
+scored_reply o scores = reply_of (scored_answer o.number scores) o.table
 
 abbrev pub plain_reply : Outcome → Reply
 plain_reply o = scored_reply o no_scores

@@ -1,5 +1,5 @@
 // What an accepted call of one seat gives back: the parts of the table that it has moved, so that a step copies the table once.
-ghost use Rattle.std.specs.Prelude.{◌≡◌};
+ghost use Rattle.std.specs.Prelude.{◌≡◌, set};
 ghost use Rattle.answer.specs.Moved.{make_moved, moved_table};
 
 use table::{Seat, Table};
@@ -25,16 +25,21 @@ pub fn seat_moved(t: &Table, seat: Seat) -> Moved
     }
 }
 
-// The table with it: past the nine seats no seat is stored.
-pub fn moved_table(t: Table, seat: u8, m: Moved) -> Table
-    ensures { result ≡ moved_table t seat m }
+// A seat put in its place: past the nine none is stored.
+fn put_seat(seats: &mut [Seat; 9], seat: u8, s: Seat)
+    ensures { seats.new ≡ set seats.old seat s }
 {
-    let mut next = t;
-    next.tray = m.tray;
-    next.shoe.drawn = m.drawn;
     let i = usize::from(seat);
     if i < 9 {
-        next.seats[i] = m.seat;
+        seats[i] = s;
     }
-    next
+}
+
+// Put into the table where it lies.
+pub fn put_moved(t: &mut Table, seat: u8, m: Moved)
+    ensures { t.new ≡ moved_table t.old seat m }
+{
+    t.tray = m.tray;
+    t.shoe.drawn = m.drawn;
+    put_seat(&mut t.seats, seat, m.seat);
 }

@@ -1,9 +1,7 @@
 // What a call gives back: its number, 0 where it is accepted, and the table after it.
 ghost use Rattle.std.specs.Prelude.{◌≡◌};
-ghost use Rattle.answer.specs.Moved.{moved_outcome};
 ghost use Rattle.answer.specs.Outcome.{outcome_in};
 
-use crate::moved::{Moved, moved_table};
 use call::refusal::Refusal;
 use table::Table;
 
@@ -21,22 +19,6 @@ pub fn outcome_in(t: &Table, r: Result<Table, Refusal>) -> Outcome
 {
     match r {
         Ok(table) => Outcome { number: 0, table },
-        Err(why) => Outcome {
-            number: why.number(),
-            table: *t,
-        },
-    }
-}
-
-// Of a call of one seat of it.
-pub fn moved_outcome(t: &Table, seat: u8, r: Result<Moved, Refusal>) -> Outcome
-    ensures { result ≡ moved_outcome t.now seat r }
-{
-    match r {
-        Ok(m) => Outcome {
-            number: 0,
-            table: moved_table(*t, seat, m),
-        },
         Err(why) => Outcome {
             number: why.number(),
             table: *t,

@@ -1,7 +1,7 @@
 // What a step gives back: the answer and the next table beside it. The pay lines of close stand in two arrays that the caller lends; the answer says how
 // many there are.
 ghost use Rattle.std.specs.Prelude.{◌≡◌};
-ghost use Rattle.answer.specs.Reply.{scored_reply, plain_reply};
+ghost use Rattle.answer.specs.Reply.{scored_answer, plain_reply};
 
 use crate::outcome::Outcome;
 use crate::scores::{Scores, no_scores};
@@ -26,20 +26,15 @@ pub struct Reply {
     pub table: Table,
 }
 
-// The reply of a call that shows no more than these scores.
-pub fn scored_reply(o: Outcome, scores: Scores) -> Reply
-    ensures { result ≡ scored_reply o scores }
+// The answer of a call that shows no more than these scores.
+pub fn scored_answer(number: u8, scores: Scores) -> Answer
+    ensures { result ≡ scored_answer number scores }
 {
-    let bank = empty_hand();
-    let table = o.table;
-    Reply {
-        answer: Answer {
-            number: o.number,
-            bank,
-            lines: 0,
-            scores,
-        },
-        table,
+    Answer {
+        number,
+        bank: empty_hand(),
+        lines: 0,
+        scores,
     }
 }
 
@@ -47,5 +42,8 @@ pub fn scored_reply(o: Outcome, scores: Scores) -> Reply
 pub fn plain_reply(o: Outcome) -> Reply
     ensures { result ≡ plain_reply o }
 {
-    scored_reply(o, no_scores())
+    Reply {
+        answer: scored_answer(o.number, no_scores()),
+        table: o.table,
+    }
 }

@@ -27,6 +27,7 @@ pub fn no_scores() -> Scores
 }
 
 // The scores with one more, or unchanged where there are nine.
+#[tactic(auto, unfolding(crate::specs::Scores::with_score))]
 pub fn with_score(s: Scores, score: HandScore) -> Scores
     ensures { result ≡ with_score s score }
 {

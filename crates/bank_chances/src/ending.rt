@@ -6,7 +6,7 @@ ghost use Rattle.bank_chances.specs.Ending.{ending_of};
 use cards::hand::Hand;
 use payment::bank::{must_draw, score_of};
 
-// 0 natural, 1 to 5 a total of 17 to 21 otherwise, 6 bust, 7 unfinished.
+// 0 natural, 1 to 5 a total of 17 to 21 otherwise, 6 bust, 7 unfinished. A number and no enum: it is the place of a count in the answer, an array that C reads.
 #[tactic(auto, unfolding(crate::specs::Ending::ending_of, payment::specs::Bank::must_draw))]
 pub(crate) fn ending(bank: Hand) -> u8
     ensures { result ≡ ending_of (cards_of bank) }

@@ -4,7 +4,7 @@
 use broken::broken;
 use call::pay_line::LINES;
 use cashier::opening::{empty_table, opening};
-use engine::step;
+use engine::step_in_place;
 use std::io;
 use table::Table;
 use workload::calls_asked;
@@ -25,7 +25,7 @@ fn whole(sum: u64, damaged: bool) -> u64 {
     if damaged { 0 } else { sum }
 }
 
-// The checksum after these calls. The order is lent to each of them, and only a load reads it. The step stands in the loop: a function around it would cost a copy of the table.
+// The checksum after these calls. The order is lent to each of them, and only a load reads it.
 fn played(calls: u64) -> u64 {
     let mut p = start();
     let mut t = opened(p);
@@ -43,13 +43,11 @@ fn played(calls: u64) -> u64 {
             cards = order_of(p.decks, p.seed);
         }
         let many = cards_of(p.decks);
-        let s = step(t, chosen(p), &cards[..many], &mut names, &mut nets);
-        let answer = s.answer;
-        t = s.table;
+        let answer = step_in_place(&mut t, chosen(p), &cards[..many], &mut names, &mut nets);
         sum = of_step(sum, answer, t);
         p = after(p, answer.number, t);
     }
-    whole(sum, broken(t))
+    whole(sum, broken(&t))
 }
 
 fn main(rt: HostRuntime) -> io::Result<()> {

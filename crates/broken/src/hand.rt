@@ -92,7 +92,7 @@ fn sound_hand(o: Options, h: HandInSeat) -> bool
 }
 
 // What a look at a seat's hands gives: whether all in use are sound, and their wagers and prizes. A flag beside the sums and no Option: a guest's sums are made of these
-// before it is asked whether the hands are sound.
+// whether the hands are sound or not, and it is asked behind them; with an Option the sums of unsound hands would be asked for again.
 #[derive(Clone, Copy)]
 pub(crate) struct Looked {
     pub(crate) sound: bool,

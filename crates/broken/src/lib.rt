@@ -23,6 +23,7 @@ use options::device::bank_at_deal;
 use options::in_range;
 use state::round::{is_dealt, up};
 use state::seat::nobody_beside;
+use state::shape::seats_shape;
 use table::{Shoe, Table};
 
 // What the seats hold: their sums, and the number of cards in their hands.
@@ -32,21 +33,20 @@ struct Held {
     cards: usize,
 }
 
-// The one pass over the nine seats: it tests them, adds up their money and counts their hands' cards; nothing where one is not sound. The seats are taken out of the table first: lent where they
-// lie, the whole table would be copied. The hands are looked at here, at one place, so that the compiler puts the look into the loop.
-fn surveyed(of: &mut [u16; 256], t: Table) -> Option<Held>
+// The one pass over the nine seats: it tests them, adds up their money and counts their hands' cards; nothing where one is not sound. The hands are looked at here, at one place, so that the compiler puts the look into the loop.
+fn surveyed(of: &mut [u16; 256], t: &Table) -> Option<Held>
     requires { Room of.old 720 }
-    ensures { OfPass t of.old of.new result }
+    ensures { OfPass t.now of.old of.new result }
 {
+    seats_shape(&t.seats);
     let r = Round {
         options: t.options,
-        dealt: is_dealt(t),
-        up: up(t),
+        dealt: is_dealt(*t),
+        up: up(*t),
     };
     let mut sums = no_sums();
     let mut cards = 0;
-    let seats = t.seats;
-    for (i, s) in seats.iter().enumerate() {
+    for (i, s) in t.seats.iter().enumerate() {
         if s.hands.many != 0 {
             cards += count_seat(of, s.hands);
         }
@@ -71,27 +71,29 @@ fn begun_sound(sh: Shoe) -> bool
 
 // The bank has no card, or those of a deal in a round with a stake. `m`: the sums over the seats, worked out once. It asks that the seats are sound: then who
 // stakes, stakes beside the seated guest.
-fn bank_sound(t: Table, m: Sums) -> bool
-    requires sums { m ≡ table_sums t }
-    requires seats { all_below (seat_sound t) 9 ≡ true }
-    ensures { result ≡ sound_bank t }
+#[tactic(auto, unfolding(table::specs::Broken::sound_bank))]
+fn bank_sound(t: &Table, m: Sums) -> bool
+    requires sums { m ≡ table_sums t.now }
+    requires seats { all_below (seat_sound t.now) 9 ≡ true }
+    ensures { result ≡ sound_bank t.now }
 {
+    seats_shape(&t.seats);
     t.bank.count == 0 || (t.bank.count == bank_at_deal(t.options) && 0 < m.stakes)
 }
 
 // All money is within the limit, and in a dealt round tray and prizes cover every stake, compared so that no sum wraps.
-fn money_sound(t: Table, m: Sums) -> bool
-    requires { m ≡ table_sums t }
-    ensures { result ≡ sound_money t }
+fn money_sound(t: &Table, m: Sums) -> bool
+    requires { m ≡ table_sums t.now }
+    ensures { result ≡ sound_money t.now }
 {
     !past_most_money(t.tray, m, 0)
-        && (!is_dealt(t) || (m.cover <= t.tray || m.cover - t.tray <= m.prizes))
+        && (!is_dealt(*t) || (m.cover <= t.tray || m.cover - t.tray <= m.prizes))
 }
 
 // Of a sound order, whose left cards and discards are counted: the seats, the bank, the money, and whether what is out is what was drawn.
-fn rest_sound(of: &mut [u16; 256], t: Table) -> bool
-    requires { OfValid of.old t }
-    ensures { result ≡ (sound_faces t && all_below (seat_sound t) 9 && sound_bank t && sound_money t) }
+fn rest_sound(of: &mut [u16; 256], t: &Table) -> bool
+    requires { OfValid of.old t.now }
+    ensures { result ≡ (sound_faces t.now && all_below (seat_sound t.now) 9 && sound_bank t.now && sound_money t.now) }
 {
     match surveyed(of, t) {
         Some(held) => {
@@ -103,8 +105,8 @@ fn rest_sound(of: &mut [u16; 256], t: Table) -> bool
 }
 
 #[tactic(auto, unfolding(card_count::specs::Aids::Counters::no_counts, table::specs::Broken::sound))]
-fn sound(t: Table) -> bool
-    ensures { result ≡ is_sound t }
+fn sound(t: &Table) -> bool
+    ensures { result ≡ is_sound t.now }
 {
     if !in_range(t.options) || !begun_sound(t.shoe) {
         return false;
@@ -113,8 +115,8 @@ fn sound(t: Table) -> bool
     order_sound(&mut of, t) && rest_sound(&mut of, t)
 }
 
-pub fn broken(t: Table) -> bool
-    ensures { result ≡ is_broken t }
+pub fn broken(t: &Table) -> bool
+    ensures { result ≡ is_broken t.now }
 {
     !sound(t)
 }

@@ -92,7 +92,7 @@ fn sound_prizes(s: Seat, m: Sums) -> bool
 
 // A guest, as if alone at the seat; `m` are the guest's sums. Put into the pass over the seats, so that the seat is not copied.
 #[inline(always)]
-#[tactic(auto, unfolding(table::specs::Broken::sound_guest))]
+#[tactic(auto, using(crate::proofs::seat::Laws::by_sums), unfolding(table::specs::Broken::sound_guest))]
 fn sound_guest(r: Round, i: usize, s: Seat, m: Sums) -> bool
     requires { m ≡ guest_sums r.options s }
     ensures { result ≡ sound_guest r.options r.dealt r.up i s }

@@ -41,6 +41,7 @@ pub enum Refusal {
 }
 
 impl Refusal {
+    // The number that C and programs are given: it is made here alone.
     pub fn number(self) -> u8
         ensures { result ≡ number_of self }
     {
@@ -48,7 +49,7 @@ impl Refusal {
     }
 }
 
-// A number that no refusal has: 0, or one past 29.
+// A number that no refusal has: 0, or one past 29. A number, since C hands it over and this is where it ends.
 #[derive(Clone, Copy, Debug, PartialEq, Eq, Hash)]
 pub struct NoRefusal(pub u8);
 

@@ -27,7 +27,7 @@ pub(crate) fn bank_at_close(t: Table) -> Hand
     let left = cards_left(t);
     let burnt = bank_burn(t.options);
     let mut bank = t.bank;
-    // Places and no part of the order: where fewer cards are left than the burn takes, there are none.
+    // Places and no slice of the order: where fewer cards are left than the burn takes there is no such slice, and the branch that asks this first is no plainer.
     for n in burnt..left {
         if !must_draw(bank) {
             return bank;

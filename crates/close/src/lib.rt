@@ -15,7 +15,7 @@ ghost use Rattle.cards.specs.Hand.{cards_of};
 ghost use Rattle.payment.specs.Bank.{must_draw, score_of};
 ghost use Rattle.close_spec.specs.BankDraw.{bank_at_close};
 ghost use Rattle.close_spec.specs.Close.{close_conditions, close_effect, close_shown};
-ghost use Rattle.answer.specs.Reply.{make_reply_view, reply_by, given_by, given_of};
+ghost use Rattle.answer.specs.Reply.{make_reply_view, reply_by, given_by, given_of, reply_of};
 ghost use Rattle.close.specs.Settled.{closed_reply};
 ghost use Rattle.close.specs.Aids.Closes.{Closes};
 
@@ -24,8 +24,7 @@ use crate::clearing::closed_shoe;
 use crate::pay_lines::all_lines;
 use crate::paying::seats_back;
 use crate::seats::{Ending, ended_seats};
-use answer::outcome::Outcome;
-use answer::reply::{Answer, Reply, plain_reply};
+use answer::reply::{Answer, scored_answer};
 use answer::scores::{Scores, no_scores, with_score};
 use call::pay_line::LINES;
 use call::refusal::{Refusal, first_refusal};
@@ -45,7 +44,7 @@ fn check_early(t: &Whole) -> Result<(), Refusal>
     let t = t.table();
     first_refusal(&[
         (Refusal::NoRound, !is_dealt(*t)),
-        (Refusal::HandWaits, seat_in_turn(*t) < 9),
+        (Refusal::HandWaits, seat_in_turn(t) < 9),
     ])
 }
 
@@ -103,23 +102,20 @@ pub fn close(
     Ok(settle(*t, bank, names, nets))
 }
 
-// The reply of a close on the table t.
-pub fn closed_reply(t: &Table, r: Result<Settled, Refusal>) -> Reply
-    ensures { result ≡ closed_reply t.now r }
+// The answer of a close on the table t, and its table put in the place of that.
+pub fn closed_answer(t: &mut Table, r: Result<Settled, Refusal>) -> Answer
+    ensures { reply_of result t.new ≡ closed_reply t.old r }
 {
     match r {
-        Ok(s) => Reply {
-            answer: Answer {
+        Ok(s) => {
+            *t = s.table;
+            Answer {
                 number: 0,
                 bank: s.bank,
                 lines: s.lines,
                 scores: s.scores,
-            },
-            table: s.table,
-        },
-        Err(why) => plain_reply(Outcome {
-            number: why.number(),
-            table: *t,
-        }),
+            }
+        }
+        Err(why) => scored_answer(why.number(), no_scores()),
     }
 }

@@ -43,7 +43,7 @@ fn made(seats: [SeatLights; 9], rows: Rows) -> Screen
 pub fn shown_screen(t: Table) -> Screen
     ensures { result ≡ screen_of t }
 {
-    if broken(t) {
+    if broken(&t) {
         return made(all_dark(t), no_rows());
     }
     let whole = Whole::new(t);

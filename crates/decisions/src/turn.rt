@@ -34,7 +34,7 @@ pub fn check_turn(t: &Whole, at: At) -> Result<(), Refusal>
         (Refusal::NoStake, !(0 < money.stake)),
         (
             Refusal::NotInTurn,
-            seat_in_turn(*table) != usize::from(at.seat),
+            seat_in_turn(table) != usize::from(at.seat),
         ),
         (
             Refusal::NotDeciding,

@@ -3,8 +3,6 @@ use Rattle.std.specs.Prelude.{Bool, cond, ◌||◌, List, ℕ, ltb, eqb}
 use Rattle.call.specs.declared.Call.{Call}
 use Rattle.call.specs.Answer.{empty_shown}
 use Rattle.table.specs.declared.Table.{Table}
-use Rattle.answer.specs.declared.reply.Answer.{Answer}
-use Rattle.answer.specs.declared.reply.Reply.{Reply}
 use Rattle.answer.specs.Reply.{ReplyView, make_reply_view}
 use Rattle.engine.specs.Step.{step}
 use Rattle.file_spec.specs.CallBlock.{call_of}
@@ -19,7 +17,3 @@ call_by kind seat position amount = call_of kind (record { seat = seat; position
 -- The engine's step of that call; an unknown kind is answered by 255, with nothing shown and the table as it was.
 unfoldable pub step_by : Table → ℕ → ℕ → ℕ → ℕ → List ℕ → ReplyView
 step_by t kind seat position amount order = cond (unknown_kind kind) (make_reply_view 255 empty_shown t) (step t (call_by kind seat position amount) order)
-
--- The answer and the next table, where each lies in a place of the caller's.
-abbrev pub reply_of : Answer → Table → Reply
-reply_of answer table = record { answer = answer; table = table }

@@ -17,7 +17,7 @@ use file_block::call_block::call_of;
 use options::Options;
 use table::Table;
 
-// The number of a call of unknown kind.
+// The number of a call of unknown kind. A number and no Refusal: C reads it, and no call gives it.
 pub const UNKNOWN_KIND: u8 = 255;
 
 // Whether a number is no kind of call.
@@ -43,7 +43,7 @@ pub extern "C" fn discgauze_opened(options: Options, order: &[u8]) -> Outcome
     outcome_in(&empty_table(), opening(options, order))
 }
 
-// One step: the answer and the next table. An accepted close writes its pay lines into the two arrays.
+// One step: the answer and the next table. An accepted close writes its pay lines into the two arrays. Two lent arrays: C lends them so.
 #[unsafe(no_mangle)]
 pub extern "C" fn discgauze_stepped(
     table: Table,
@@ -77,5 +77,5 @@ pub extern "C" fn discgauze_stepped(
 pub extern "C" fn discgauze_broken(table: Table) -> bool
     ensures { result ≡ is_broken table }
 {
-    broken(table)
+    broken(&table)
 }

@@ -21,7 +21,7 @@ use replaying::open_file;
 use session_file::check::check_file;
 use session_file::reader::{call_at, file_options, first_place};
 
-// The number of a file: 0, 24, 25 or 26.
+// The number of a file: 0, 24, 25 or 26. Numbers and bytes here and below: C reads them and hands them over.
 #[unsafe(no_mangle)]
 pub extern "C" fn discgauze_file_number(file: &[u8]) -> u8
     ensures { result ≡ file_number file.now }

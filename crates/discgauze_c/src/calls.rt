@@ -20,7 +20,7 @@ pub extern "C" fn discgauze_opened(options: Options, order: &[u8]) -> Outcome
     discgauze::calls::discgauze_opened(options, order)
 }
 
-// One step: the answer and the next table. An accepted close writes its pay lines into the two arrays.
+// One step: the answer and the next table. An accepted close writes its pay lines into the two arrays. Bytes and two lent arrays: C hands them over.
 #[unsafe(no_mangle)]
 pub extern "C" fn discgauze_stepped(
     table: Table,

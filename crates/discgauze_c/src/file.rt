@@ -14,7 +14,7 @@ use discgauze::file::{FileCall, Last, Written};
 use file_writer::writer::Writer;
 use options::Options;
 
-// The number of a file: 0, 24, 25 or 26.
+// The number of a file: 0, 24, 25 or 26. Numbers and bytes here and below: C reads them and hands them over.
 #[unsafe(no_mangle)]
 pub extern "C" fn discgauze_file_number(file: &[u8]) -> u8
     ensures { result ≡ file_number file.now }

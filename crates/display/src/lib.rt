@@ -67,7 +67,7 @@ fn shown_bank(t: Table) -> Hand
 pub fn shown_table(t: Table) -> TableShown
     ensures { result ≡ table_shown t }
 {
-    if broken(t) {
+    if broken(&t) {
         return no_table();
     }
     let sums = table_sums(t);
@@ -96,10 +96,10 @@ fn nobody() -> TurnShown
 pub fn shown_turn(t: Table) -> TurnShown
     ensures { result ≡ turn_shown t }
 {
-    if broken(t) {
+    if broken(&t) {
         return nobody();
     }
-    let seat = seat_in_turn(t);
+    let seat = seat_in_turn(&t);
     if 9 <= seat {
         return nobody();
     }

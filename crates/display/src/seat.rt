@@ -47,7 +47,7 @@ fn seat_values(o: Options, s: Seat) -> SeatShown
 pub(crate) fn guest_or_empty(t: Table, seat: u8, position: u8) -> Seat
     ensures { result ≡ guest_or_empty t seat position }
 {
-    if broken(t) {
+    if broken(&t) {
         return empty_seat();
     }
     if t.options.seats <= seat {

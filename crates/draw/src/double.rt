@@ -34,6 +34,7 @@ fn check_double(t: &Whole, at: At) -> Result<(), Refusal>
 pub fn double(t: &Whole, at: At) -> Result<Moved, Refusal>
     ensures same { moved_outcome t.now at.seat result ≡ outcome (double_conditions t.now at.seat at.position) (double_effect t.now at.seat) t.now }
     ensures shown { IfOk result (λ m. (at.seat < 9) × (m.hand ≡ waiting_place_of t.now at.seat)) }
+    ensures nine { length t.now.seats ≡ 9 }
 {
     check_double(t, at)?;
     Ok(with_next_card(t, at, 1, BY_DOUBLE))

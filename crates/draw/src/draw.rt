@@ -33,6 +33,7 @@ fn check_draw(t: &Whole, at: At) -> Result<(), Refusal>
 pub fn draw(t: &Whole, at: At) -> Result<Moved, Refusal>
     ensures same { moved_outcome t.now at.seat result ≡ outcome (draw_conditions t.now at.seat at.position) (draw_effect t.now at.seat) t.now }
     ensures shown { IfOk result (λ m. (at.seat < 9) × (m.hand ≡ waiting_place_of t.now at.seat)) }
+    ensures nine { length t.now.seats ≡ 9 }
 {
     check_draw(t, at)?;
     Ok(with_next_card(t, at, 0, NOT_ENDED))

@@ -1,6 +1,6 @@
 // split: the hand whose turn it is, a pair, becomes two, and each guest's stake is laid again for the new one (document 01, "The seventeen calls", the guest;
 // article 16).
-ghost use Rattle.std.specs.Prelude.{◌≡◌, ◌<◌, ◌≤◌, get_or, IfOk};
+ghost use Rattle.std.specs.Prelude.{◌≡◌, ◌<◌, ◌≤◌, get_or, length, IfOk};
 ghost use Rattle.cards.specs.Hand.{cards_of};
 ghost use Rattle.call.specs.Refusal.{number_in, first as first_of};
 ghost use Rattle.answer.specs.Moved.{moved_table, moved_outcome};
@@ -141,11 +141,12 @@ fn split_moved(t: &Whole, at: At) -> Moved
 
 // Behind the conditions in turn: 19 no pair, 20 the seat's hands are used up, 15 a guest's purse is below the stake, 18 fewer than two cards are left.
 fn check_split(t: &Whole, at: At) -> Result<(), Refusal>
-    ensures { number_in result ≡ first_of (split_conditions t.now at.seat at.position) }
+    ensures number { number_in result ≡ first_of (split_conditions t.now at.seat at.position) }
+    ensures nine { length t.now.seats ≡ 9 }
 {
+    let table = t.table();
     check_turn(t, at)?;
     let turn = hand_in_turn(t, at);
-    let table = t.table();
     first_refusal(&[
         (Refusal::NoPair, !is_pair(turn.in_seat.hand.hand)),
         (
@@ -160,6 +161,7 @@ fn check_split(t: &Whole, at: At) -> Result<(), Refusal>
 pub fn split(t: &Whole, at: At) -> Result<Moved, Refusal>
     ensures same { moved_outcome t.now at.seat result ≡ outcome (split_conditions t.now at.seat at.position) (split_effect t.now at.seat) t.now }
     ensures shown { IfOk result (λ m. (at.seat < 9) × (m.hand ≡ waiting_place_of t.now at.seat)) }
+    ensures nine { length t.now.seats ≡ 9 }
 {
     check_split(t, at)?;
     Ok(split_moved(t, at))

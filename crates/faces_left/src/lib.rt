@@ -49,7 +49,7 @@ fn unseen_counts(t: &Whole) -> [u8; 52]
 pub fn faces_left(t: Table) -> FacesLeft
     ensures { result ≡ faces_left t }
 {
-    if broken(t) {
+    if broken(&t) {
         return refused(Refusal::Broken);
     }
     if !is_dealt(t) {

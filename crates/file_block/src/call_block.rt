@@ -9,7 +9,7 @@ use crate::block::{Block, all_zero, checks};
 use call::refusal::Refusal;
 use call::{At, Call};
 
-// The kind of a load.
+// The kind of a load: a byte of the file, as the kinds below.
 const LOAD: u8 = 17;
 
 // A call's ten bytes, taken apart: its kind, the byte of its seat and its position, its amount. The kind is a number here and below, since a file's byte may be any of 256.

@@ -7,7 +7,7 @@ use crate::sound::host_broken;
 use host_spec::{GuestCard, Hosted};
 
 // Whether a card sits there, which, and its tally: rounds closed, money wagered, net with prizes. A flag beside
-// zeros and no Option, since a display draws every field.
+// zeros and no Option: the definition gives a display every field of an empty position too.
 #[derive(Clone, Copy)]
 pub struct CardShown {
     pub here: bool,

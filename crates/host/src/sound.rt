@@ -91,5 +91,5 @@ pub fn cards_sound(o: Options, cards: [GuestCard; 27]) -> bool
 pub fn host_broken(h: Hosted) -> bool
     ensures { result ≡ host_broken h }
 {
-    broken(h.table) || !cards_sound(h.table.options, h.cards)
+    broken(&h.table) || !cards_sound(h.table.options, h.cards)
 }

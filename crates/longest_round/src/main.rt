@@ -63,6 +63,7 @@ impl Play {
     fn call<W: Write>(&mut self, out: &mut W, call: Call) -> io::Result<()> {
         let reply = self.lines.step(self.table, call, b"");
         self.table = reply.table;
+        // An answer's number, as C reads it: 0 is accepted.
         if reply.answer.number == 0 {
             self.calls = self.calls.saturating_add(1);
         }

@@ -6,7 +6,7 @@ ghost use Rattle.rules.specs.Turn.{seat_waits, waiting_place};
 use crate::seat_hand::{HandInSeat, SeatHands, used};
 use options::Options;
 
-// The place of the first waiting hand, or the number of the seat's hands where none waits.
+// The place of the first waiting hand, or the number of the seat's hands where none waits: a number and no Option, as its definition names it.
 pub fn waiting_place(o: Options, up: u8, s: SeatHands) -> usize
     ensures { result ≡ waiting_place o up (hands_of s) }
 {

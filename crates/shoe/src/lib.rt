@@ -40,6 +40,7 @@ pub fn discard_drawn(sh: Shoe) -> Shoe
 }
 
 // An array before any card is in it.
+#[tactic(auto, unfolding(crate::specs::Aids::Empty::no_cards))]
 fn no_cards() -> [u8; 416]
     ensures { result ≡ no_cards }
 {

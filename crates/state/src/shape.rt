@@ -27,6 +27,11 @@ fn seat_shape(s: Seat)
     money_shape(s.others[1]);
 }
 
+// Of the nine seats where a table is lent.
+pub fn seats_shape(seats: &[Seat; 9])
+    ensures { length seats.now ≡ 9 }
+{}
+
 pub fn table_shape(t: Table)
     ensures { Shaped t }
 {

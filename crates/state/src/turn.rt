@@ -3,16 +3,17 @@ ghost use Rattle.std.specs.Prelude.{◌≡◌};
 ghost use Rattle.state.specs.Turn.{seat_in_turn, place_in_turn};
 
 use crate::round::up;
+use crate::shape::seats_shape;
 use rules::turn::{seat_waits, waiting_place};
 use table::Table;
 
-// The first seat with a waiting hand, or 9 where no hand waits. The seats are taken out of the table first: lent where they lie, the whole table would be copied.
-pub fn seat_in_turn(t: Table) -> usize
-    ensures { result ≡ seat_in_turn t }
+// The first seat with a waiting hand, or 9 where no hand waits: a number and no Option, since displays and definitions name it.
+pub fn seat_in_turn(t: &Table) -> usize
+    ensures { result ≡ seat_in_turn t.now }
 {
-    let card = up(t);
-    let seats = t.seats;
-    seats
+    seats_shape(&t.seats);
+    let card = up(*t);
+    t.seats
         .iter()
         .position(|s| seat_waits(t.options, card, s.hands))
         .unwrap_or(9)
@@ -22,7 +23,7 @@ pub fn seat_in_turn(t: Table) -> usize
 pub fn place_in_turn(t: Table) -> usize
     ensures { result ≡ place_in_turn t }
 {
-    let i = seat_in_turn(t);
+    let i = seat_in_turn(&t);
     if 9 <= i {
         return 0;
     }

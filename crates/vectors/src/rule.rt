@@ -1,4 +1,4 @@
-// The rules by their letters. Payment is asked with a stake of 20, an insurance of 10 and a side stake of 10.
+// The rules by their letters, bytes and no enum: a table of examples is a text file. Payment is asked with a stake of 20, an insurance of 10 and a side stake of 10.
 use crate::answered::Answered;
 use crate::example::Example;
 use cards::score::hand_score;

@@ -56,7 +56,7 @@ pub(crate) fn check_ways(t: Table) -> Result<(), Refusal>
     ensures { number_in result ≡ ways_number t }
 {
     first_refusal(&[
-        (Refusal::Broken, broken(t)),
+        (Refusal::Broken, broken(&t)),
         (Refusal::NoRound, !is_dealt(t)),
         (Refusal::Barred, 1 < staked_guests(t)),
         (Refusal::Barred, any_decided(&t)),

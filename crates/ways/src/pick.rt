@@ -10,7 +10,7 @@ use crate::decide::{KINDS, check_close, decide};
 use call::At;
 use table::whole::Whole;
 
-// A decision, the table after it, and the place that is left among the lists from there.
+// A decision, by the byte that C reads in a way, the table after it, and the place that is left among the lists from there.
 #[derive(Clone, Copy)]
 pub(crate) struct Onward {
     pub kind: u8,

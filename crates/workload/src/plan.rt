@@ -164,7 +164,7 @@ fn round_ended(p: Plan) -> Plan {
 
 // The seat whose turn it is.
 fn turn_of(t: &Table) -> Option<u8> {
-    match seat_in_turn(*t) {
+    match seat_in_turn(t) {
         seat @ 0..9 => Some(seat as u8),
         _ => None,
     }

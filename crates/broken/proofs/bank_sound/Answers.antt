@@ -10,19 +10,10 @@ use Rattle.money.proofs.sums.Capping.{some_stakes}
 use borrow.Author.Rules.{rules}
 use Rattle.broken.proofs.bank_sound.Goals as goal
 
-pub returns-then-t-eq0 : goal.returns-then-t-eq0
-unfolding sound_bank
-returns-then-t-eq0 c = simp (eq-eqb _ _ c.if-t-eq0.true)
-
 pub returns-then-t-bank_at_deal : goal.returns-then-t-bank_at_deal
 unfolding sound_bank
 returns-then-t-bank_at_deal c =
-    let t = c.args.t in
-    let full : length t.seats ≡ 9 = search rules in
+    let t = c.args.t.now in
+    let full : length t.seats ≡ 9 = c.seats_shape.ensures in
     simp (ne_eqb _ _ c.if-t-eq0.false, eq-eqb _ _ (c.if-t-bank_at_deal.true ∙ c.bank_at_deal.ensures))
     (sym (some_stakes t c.args.m c.requires.sums full (λ i h. (seat_facts t.options (is_dealt t) (up t) i (seat_at t i) (all_below_lem (seat_sound t) 9 i c.requires.seats h)).seated_first_lem)))
-
-pub returns-else-t-bank_at_deal : goal.returns-else-t-bank_at_deal
-unfolding sound_bank
-returns-else-t-bank_at_deal c =
-    simp (ne_eqb _ _ c.if-t-eq0.false, ne_eqb _ _ (λ same. c.if-t-bank_at_deal.false (same ∙ sym c.bank_at_deal.ensures))) (ne_eqb _ _ c.if-t-bank_at_deal.false)

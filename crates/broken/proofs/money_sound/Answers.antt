@@ -31,20 +31,20 @@ module _ (t : Table) (m : Sums) (same : m ≡ table_sums t) where
 pub returns-else-not-past_most_money : goal.returns-else-not-past_most_money
 unfolding sound_money
 returns-else-not-past_most_money c =
-    simp (within c.args.t c.args.m c.requires _ c.past_most_money.ensures ∙ ap not c.if-not-past_most_money.false, c.if-not-past_most_money.false)
+    simp (within c.args.t.now c.args.m c.requires _ c.past_most_money.ensures ∙ ap not c.if-not-past_most_money.false, c.if-not-past_most_money.false)
 
 pub returns-then-not-is_dealt : goal.returns-then-not-is_dealt
 unfolding sound_money
 returns-then-not-is_dealt c =
     simp (
-      within c.args.t c.args.m c.requires _ c.past_most_money.ensures ∙ ap not c.if-not-past_most_money.true,
+      within c.args.t.now c.args.m c.requires _ c.past_most_money.ensures ∙ ap not c.if-not-past_most_money.true,
       sym c.is_dealt.ensures ∙ c.if-not-is_dealt.true,
       c.if-not-is_dealt.true,
     )
 
 pub returns-then-m-t : goal.returns-then-m-t
 returns-then-m-t c =
-    let t = c.args.t in
+    let t = c.args.t.now in
     let m = c.args.m in
     let fits = within t m c.requires _ c.past_most_money.ensures ∙ ap not c.if-not-past_most_money.true in
     let enough : m.cover ≤ t.tray + m.prizes = omega (arith, c.if-m-t.true) in
@@ -52,7 +52,7 @@ returns-then-m-t c =
 
 pub returns-else-m-t : goal.returns-else-m-t
 returns-else-m-t c =
-    let t = c.args.t in
+    let t = c.args.t.now in
     let m = c.args.m in
     let fits = within t m c.requires _ c.past_most_money.ensures ∙ ap not c.if-not-past_most_money.true in
     leb_past m.cover t.tray m.prizes c.if-m-t.false

@@ -5,5 +5,5 @@ use Rattle.broken.proofs.rest_sound.Goals as goal
 
 pub surveyed-requires : goal.surveyed-requires
 surveyed-requires c =
-    let t = c.args.t in
+    let t = c.args.t.now in
     room-kept c.args.of.now t.options.decks t.shoe.order t.shoe.drawn t.shoe.discarded 720 c.requires.left (omega arith)

@@ -53,11 +53,11 @@ no_hand of n places none = rw none (record { counters = refl; number = refl; few
 
 -- by either way the seat's cards are counted
 counted : (c : Joined-s-ne0)
-    → Counted c.args.of.now c.if-s-ne0.of (flat seat_cards (take (c.loop-i.i + 1) c.args.t.seats)) c.if-s-ne0.cards (80 * (c.loop-i.i + 1))
+    → Counted c.args.of.now c.if-s-ne0.of (flat seat_cards (take (c.loop-i.i + 1) c.args.t.now.seats)) c.if-s-ne0.cards (80 * (c.loop-i.i + 1))
 counted c =
-    let t = c.args.t in
+    let t = c.args.t.now in
     let at = c.loop-i in
-    let full : length t.seats ≡ 9 = search rules in
+    let full : length t.seats ≡ 9 = c.seats_shape.ensures in
     let below : at.i < length t.seats = omega arith in
     let s = get_or t.seats at.i missing_seat in
     elim c.if-s-ne0.branch [
@@ -69,7 +69,7 @@ counted c =
 
 -- by either way the seat is surveyed
 joined : (c : Joined-nobody_beside)
-    → let t = c.args.t in
+    → let t = c.args.t.now in
     Surveyed (passes t.options c.is_dealt.result c.up.result t.seats c.loop-i.i) (seat_sums t.options (get_or t.seats c.loop-i.i missing_seat)) 3 c.if-nobody_beside.one
 joined c =
     elim c.if-nobody_beside.branch [
@@ -81,7 +81,7 @@ pub loop-i-init : goal.loop-i-init
 unfolding all_below sum_of
 loop-i-init c =
     let none = c.no_sums-sums.ensures in
-    (omega arith, refl, none, rw none no_guests_fit, counted_none seat_cards c.args.t.seats 80 _)
+    (omega arith, refl, none, rw none no_guests_fit, counted_none seat_cards c.args.t.now.seats 80 _)
 
 pub count_seat-requires : goal.count_seat-requires
 count_seat-requires c =
@@ -89,7 +89,7 @@ count_seat-requires c =
 
 pub returns-in_err-one : goal.returns-in_err-one
 returns-in_err-one c =
-    let t = c.args.t in
+    let t = c.args.t.now in
     let card = c.up in
     let dealt = c.is_dealt in
     rw c.from_residual.ensures (record {
@@ -102,11 +102,11 @@ returns-in_err-one c =
 
 pub loop-i-preserved : goal.loop-i-preserved
 loop-i-preserved c =
-    let t = c.args.t in
+    let t = c.args.t.now in
     let card = c.up in
     let dealt = c.is_dealt in
     let i = c.loop-i.i in
-    let full : length t.seats ≡ 9 = search rules in
+    let full : length t.seats ≡ 9 = c.seats_shape.ensures in
     let m = c.in_ok-one.field-0 in
     let one = passed _ _ 3 _ m (joined (goal.at.loop-i-preserved c).Joined-nobody_beside) c.in_ok-one.was in (
       omega arith,
@@ -118,10 +118,10 @@ loop-i-preserved c =
 
 pub returns : goal.returns
 returns c =
-    let t = c.args.t in
+    let t = c.args.t.now in
     let card = c.up in
     let dealt = c.is_dealt in
-    let full : length t.seats ≡ 9 = search rules in
+    let full : length t.seats ≡ 9 = c.seats_shape.ensures in
     let nine : c.loop-i.i ≡ 9 = omega arith in
     let all = take_all c.loop-i.i t.seats (omega arith) in
     record {

@@ -16,7 +16,6 @@ use Rattle.table.specs.Shoe.{valid_order, discards_of}
 use Rattle.table.specs.Table.{table_order}
 use Rattle.card_count.specs.Aids.Left.{OrderFits}
 use Rattle.card_count.proofs.valid_order.Orders.{too_short}
-use borrow.Author.Rules.{rules}
 use Rattle.card_count.proofs.conserved.order_sound.Goals as goal
 
 -- what the comparison of the discards gives
@@ -41,28 +40,28 @@ order_decides t within first =
 pub returns-then-all-gt416-clause-tests : goal.returns-then-all-gt416-clause-tests
 unfolding sound_shoe
 returns-then-all-gt416-clause-tests c =
-    let t = c.args.t in
-    let full : length t.shoe.order ≡ 416 = search rules in
+    let t = c.args.t.now in
+    let full : length t.shoe.order ≡ 416 = c.cards_shape.ensures in
     simp (too_short t.options.decks (52 * t.options.decks) t.shoe.order (omega arith))
 
 pub returns-then-all-shoe-clause-tests : goal.returns-then-all-shoe-clause-tests
 unfolding sound_shoe
-returns-then-all-shoe-clause-tests c = let t = c.args.t in simp (lt-leb t.shoe.drawn (52 * t.options.decks) (omega arith), and-false)
+returns-then-all-shoe-clause-tests c = let t = c.args.t.now in simp (lt-leb t.shoe.drawn (52 * t.options.decks) (omega arith), and-false)
 
 pub returns-then-shoe-clause-tests : goal.returns-then-shoe-clause-tests
 unfolding sound_discards
-returns-then-shoe-clause-tests c = let t = c.args.t in simp (lt-leb t.shoe.discarded t.shoe.drawn (omega arith), and-false)
+returns-then-shoe-clause-tests c = let t = c.args.t.now in simp (lt-leb t.shoe.discarded t.shoe.drawn (omega arith), and-false)
 
 pub returns-then-not-discards_first-clause-tests : goal.returns-then-not-discards_first-clause-tests
 unfolding sound_discards
 returns-then-not-discards_first-clause-tests c = simp (sym c.discards_first.ensures ∙ c.if-not-discards_first.true, and-false)
 
 pub returns-clause-tests : goal.returns-clause-tests
-returns-clause-tests c = c.order_valid.ensures ∙ order_decides c.args.t c.count_left.ensures.within (sym c.discards_first.ensures ∙ c.if-not-discards_first.false)
+returns-clause-tests c = c.order_valid.ensures ∙ order_decides c.args.t.now c.count_left.ensures.within (sym c.discards_first.ensures ∙ c.if-not-discards_first.false)
 
 pub returns-clause-counters : goal.returns-clause-counters
 returns-clause-counters c e =
-    let t = c.args.t in
-    let order : length t.shoe.order ≡ 416 = search rules in
-    let discards : length t.shoe.discards ≡ 416 = search rules in
+    let t = c.args.t.now in
+    let order : length t.shoe.order ≡ 416 = c.cards_shape.ensures in
+    let discards : length t.shoe.discards ≡ 416 = c.cards_shape-2.ensures in
     record { left = c.count_left.ensures; valid = sym c.order_valid.ensures ∙ e; discards = discards_are t.shoe (discards ∙ sym order) (sym c.discards_first.ensures ∙ c.if-not-discards_first.false) }

@@ -38,20 +38,20 @@ in_play t ok bank = counted_join ok.counted bank
 
 pub count_hand-requires : goal.count_hand-requires
 count_hand-requires c =
-    let t = c.args.t in
+    let t = c.args.t.now in
     let ok = c.requires in
     counted-room 740 20 (room-kept ok.before t.options.decks t.shoe.order t.shoe.drawn t.shoe.discarded 740 ok.valid.left (omega arith)) ok.counted (omega arith)
 
 pub returns-then-many-t : goal.returns-then-many-t
 unfolding sound_faces
 returns-then-many-t c =
-    let t = c.args.t in
+    let t = c.args.t.now in
     simp (ne_eqb (length (out_cards t)) t.shoe.drawn (λ e. omega (arith, out_many t c.requires.valid, (in_play t c.requires c.count_hand.ensures).number)), and-false)
 
 pub returns : goal.returns
 unfolding sound_faces
 returns c =
-    let t = c.args.t in
+    let t = c.args.t.now in
     let decks = t.options.decks in
     let ok = c.requires.valid in
     let kept = ok.left in

@@ -6,9 +6,9 @@ use Rattle.decisions_spec.specs.Split.{split_conditions}
 use Rattle.decisions.proofs.turn.Laws.{turn-passes, turn_comes}
 use Rattle.draw.proofs.split.check_split.Goals as goal
 
-pub returns-in_err-check_turn : goal.returns-in_err-check_turn
+pub returns-in_err-check_turn-clause-number : goal.returns-in_err-check_turn-clause-number
 unfolding split_conditions
-returns-in_err-check_turn c = refuses _ _ _ c.from_residual.ensures.1 c.in_err-check_turn.ensures _
+returns-in_err-check_turn-clause-number c = refuses _ _ _ c.from_residual.ensures.1 c.in_err-check_turn.ensures _
 
 pub hand_in_turn-turn-requires : goal.hand_in_turn-turn-requires
 hand_in_turn-turn-requires c = turn_comes _ _ _ c.in_ok-check_turn.ensures
@@ -16,9 +16,9 @@ hand_in_turn-turn-requires c = turn_comes _ _ _ c.in_ok-check_turn.ensures
 pub seat-requires : goal.seat-requires
 seat-requires c = (turn_comes _ _ _ c.in_ok-check_turn.ensures).nine
 
-pub returns : goal.returns
+pub returns-clause-number : goal.returns-clause-number
 unfolding split_conditions first
-returns c =
+returns-clause-number c =
     let turn = c.hand_in_turn-turn.ensures in
     (simp (
       c.first_refusal.ensures,

@@ -1,15 +1,17 @@
 -- A refused deal shows no score; an accepted one those of the table that it leaves.
-use mathlib.Core.Path.{refl, ◌∙◌, ap}
+use mathlib.Core.Path.{refl, ap}
 use Rattle.call.proofs.Refusals.{refusal_some}
 use Rattle.engine.proofs.ShownDeal.{dealt-none, dealt_some}
+use Rattle.answer.specs.declared.reply.Answer.{Answer}
+use Rattle.answer.specs.Reply.{reply_of}
 use Rattle.engine.proofs.replies.dealt.Goals as goal
 
 pub returns-in-Ok : goal.returns-in-Ok
 returns-in-Ok c =
-    let both = dealt_some _ _ _ c.in-Ok.ensures refl c.scored_reply.ensures c.deal_scores.ensures in
+    let both = dealt_some _ _ _ c.in-Ok.ensures refl (ap (λ (a : Answer). reply_of a c.in-Ok.table) c.scored_answer.ensures) c.deal_scores.ensures in
     record { scores = both.0; made = both.1 }
 
 pub returns-in-Err : goal.returns-in-Err
 returns-in-Err c =
-    let both = dealt-none _ _ _ c.in-Err.ensures (refusal_some _) (rw (c.number.ensures, c.table.ensures.same) at c.plain_reply.ensures) in
+    let both = dealt-none _ _ _ c.in-Err.ensures (refusal_some _) (rw (c.requires, c.scored_answer-in-Err.ensures, c.number.ensures, c.no_scores.ensures)) in
     record { scores = both.0; made = both.1 }

@@ -11,8 +11,8 @@ use Rattle.state.proofs.turn.seat_in_turn.Goals as goal
 
 pub returns : goal.returns
 returns c =
-    let t = c.args.t in
-    let full : length t.seats ≡ 9 = search rules in
+    let t = c.args.t.now in
+    let full : length t.seats ≡ 9 = c.seats_shape.ensures in
     let test = λ (s : Seat). seat_waits t.options c.up-card.result (hands s) in
     let found : c.position.result ≡ position test t.seats = position_from_yields_List test _ _ _ c.position.ensures.ran (YieldsList-from_slice t.seats cc) (λ x b q k. search (rules, tests)) in
     rw (← c.up-card.ensures, first_place-map, first_place-position, ← found, full) (search rules)

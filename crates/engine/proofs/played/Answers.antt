@@ -26,7 +26,7 @@ use Rattle.close_spec.specs.Close.{close_shown}
 use Rattle.engine.specs.Scores.{deal_scores}
 use Rattle.engine.specs.Step.{step}
 use Rattle.engine.proofs.Moved.{card_shown_lem, split-shown}
-use Rattle.engine.proofs.step_whole.Goals as goal
+use Rattle.engine.proofs.played.Goals as goal
 
 -- the same scores, shown or not
 alike : (b : Bool) (ss : List HandScore) → ss ≡ cond b ss ss
@@ -65,87 +65,83 @@ module _ (t : Table) (order names : List ℕ) (nets : List ℤ) {c d : Call} (is
 
 pub returns-in-Fill : goal.returns-in-Fill
 unfolding step
-returns-in-Fill c = plain-arm _ _ _ _ c.in-Fill.is _ _ c.changed_reply.ensures c.fill.ensures refl
+returns-in-Fill c = plain-arm _ _ _ _ c.in-Fill.is _ _ c.filled.ensures refl refl
 
 pub returns-in-Credit : goal.returns-in-Credit
 unfolding step
-returns-in-Credit c = plain-arm _ _ _ _ c.in-Credit.is _ _ c.changed_reply-in-Credit.ensures c.credit.ensures refl
+returns-in-Credit c = plain-arm _ _ _ _ c.in-Credit.is _ _ c.credited.ensures refl refl
 
 pub returns-in-Buy : goal.returns-in-Buy
 unfolding step
-returns-in-Buy c = plain-arm _ _ _ _ c.in-Buy.is _ _ c.moved_reply.ensures c.buy.ensures refl
+returns-in-Buy c = plain-arm _ _ _ _ c.in-Buy.is _ _ (rw c.requires at c.moved.ensures) c.buy.ensures refl
 
 pub returns-in-Cash : goal.returns-in-Cash
 unfolding step
-returns-in-Cash c = plain-arm _ _ _ _ c.in-Cash.is _ _ c.moved_reply-in-Cash.ensures c.cash.ensures refl
+returns-in-Cash c = plain-arm _ _ _ _ c.in-Cash.is _ _ (rw c.requires at c.moved-in-Cash.ensures) c.cash.ensures refl
 
 pub returns-in-Stake : goal.returns-in-Stake
 unfolding step
-returns-in-Stake c = plain-arm _ _ _ _ c.in-Stake.is _ _ c.moved_reply-in-Stake.ensures c.stake.ensures refl
+returns-in-Stake c = plain-arm _ _ _ _ c.in-Stake.is _ _ (rw c.requires at c.moved-in-Stake.ensures) c.stake.ensures refl
 
 pub returns-in-Insure : goal.returns-in-Insure
 unfolding step
-returns-in-Insure c = plain-arm _ _ _ _ c.in-Insure.is _ _ c.moved_reply-in-Insure.ensures c.insure.ensures refl
+returns-in-Insure c = plain-arm _ _ _ _ c.in-Insure.is _ _ (rw c.requires at c.moved-in-Insure.ensures) c.insure.ensures refl
 
 pub returns-in-Stand : goal.returns-in-Stand
 unfolding step
-returns-in-Stand c = plain-arm _ _ _ _ c.in-Stand.is _ _ c.moved_reply-in-Stand.ensures c.stand.ensures refl
+returns-in-Stand c = plain-arm _ _ _ _ c.in-Stand.is _ _ (rw c.requires at c.moved-in-Stand.ensures) c.stand.ensures refl
 
 pub returns-in-Surrender : goal.returns-in-Surrender
 unfolding step
-returns-in-Surrender c = plain-arm _ _ _ _ c.in-Surrender.is _ _ c.moved_reply-in-Surrender.ensures c.surrender.ensures refl
+returns-in-Surrender c = plain-arm _ _ _ _ c.in-Surrender.is _ _ (rw c.requires at c.moved-in-Surrender.ensures) c.surrender.ensures refl
 
 pub returns-in-Even : goal.returns-in-Even
 unfolding step
-returns-in-Even c = plain-arm _ _ _ _ c.in-Even.is _ _ c.moved_reply-in-Even.ensures c.even.ensures refl
+returns-in-Even c = plain-arm _ _ _ _ c.in-Even.is _ _ (rw c.requires at c.moved-in-Even.ensures) c.even.ensures refl
 
 pub returns-in-Five : goal.returns-in-Five
 unfolding step
-returns-in-Five c = plain-arm _ _ _ _ c.in-Five.is _ _ c.moved_reply-in-Five.ensures c.five.ensures refl
+returns-in-Five c = plain-arm _ _ _ _ c.in-Five.is _ _ (rw c.requires at c.moved-in-Five.ensures) c.five.ensures refl
 
 pub returns-in-Void : goal.returns-in-Void
 unfolding step
-returns-in-Void c = plain-arm _ _ _ _ c.in-Void.is _ _ c.changed_reply-in-Void.ensures c.void.ensures refl
+returns-in-Void c = plain-arm _ _ _ _ c.in-Void.is _ _ c.voided.ensures refl refl
 
 pub returns-in-Load : goal.returns-in-Load
 unfolding step
-returns-in-Load c = plain-arm _ _ _ _ c.in-Load.is _ _ c.changed_reply-in-Load.ensures c.load.ensures refl
+returns-in-Load c = plain-arm _ _ _ _ c.in-Load.is _ _ c.loaded.ensures refl refl
 
 pub returns-in-Draw : goal.returns-in-Draw
 unfolding step
 returns-in-Draw c =
-    let r = c.card_reply.ensures in
-    shown-arm _ _ _ _ c.in-Draw.is _ _ _ _ _ r.made c.draw.ensures.same
-    (r.told ∙ card_shown_lem _ _ _ _ r.nine _ c.draw.ensures.same c.draw.ensures.shown) refl
+    let r = c.card_moved.ensures in
+    shown-arm _ _ _ _ c.in-Draw.is _ _ _ _ _ (rw c.requires at r.made) c.draw.ensures.same
+    (r.told ∙ card_shown_lem _ _ _ _ c.draw.ensures.nine _ c.draw.ensures.same c.draw.ensures.shown) refl
 
 pub returns-in-Double : goal.returns-in-Double
 unfolding step
 returns-in-Double c =
-    let r = c.card_reply-in-Double.ensures in
-    shown-arm _ _ _ _ c.in-Double.is _ _ _ _ _ r.made c.double.ensures.same
-    (r.told ∙ card_shown_lem _ _ _ _ r.nine _ c.double.ensures.same c.double.ensures.shown) refl
+    let r = c.card_moved-in-Double.ensures in
+    shown-arm _ _ _ _ c.in-Double.is _ _ _ _ _ (rw c.requires at r.made) c.double.ensures.same
+    (r.told ∙ card_shown_lem _ _ _ _ c.double.ensures.nine _ c.double.ensures.same c.double.ensures.shown) refl
 
 pub returns-in-Split : goal.returns-in-Split
 unfolding step
 returns-in-Split c =
-    let r = c.split_reply.ensures in
-    shown-arm _ _ _ _ c.in-Split.is _ _ _ _ _ r.made c.split.ensures.same
-    (r.told ∙ split-shown _ _ _ _ r.nine _ c.split.ensures.same c.split.ensures.shown) refl
+    let r = c.split_moved.ensures in
+    shown-arm _ _ _ _ c.in-Split.is _ _ _ _ _ (rw c.requires at r.made) c.split.ensures.same
+    (r.told ∙ split-shown _ _ _ _ c.split.ensures.nine _ c.split.ensures.same c.split.ensures.shown) refl
 
 pub returns-in-Side : goal.returns-in-Side
-returns-in-Side c = plain-arm _ _ _ _ c.in-Side.is _ _ c.moved_reply-in-Side.ensures c.side.ensures (side-step _ _ _ _ _)
+returns-in-Side c = plain-arm _ _ _ _ c.in-Side.is _ _ (rw c.requires at c.moved-in-Side.ensures) c.side.ensures (side-step _ _ _ _ _)
 
 pub returns-in-Deal : goal.returns-in-Deal
 unfolding step
 returns-in-Deal c =
     let t = c.args.t.now in
     given t c.args.order.now c.args.names.now c.args.nets.now c.in-Deal.is
-    (plain c.args.names.now c.args.nets.now (deal_conditions t) (deal_effect t) t (deal_scores (deal_effect t)) c.dealt.result.answer.scores c.dealt.result c.dealt.ensures.scores c.dealt.ensures.made)
+    (plain c.args.names.now c.args.nets.now (deal_conditions t) (deal_effect t) t (deal_scores (deal_effect t)) c.dealt.result.scores _ c.dealt.ensures.scores c.dealt.ensures.made)
 
 pub returns-in-Close : goal.returns-in-Close
 unfolding step
-returns-in-Close c =
-    let names = c.args.names.now in
-    let nets = c.args.nets.now in
-    given c.args.t.now c.args.order.now names nets c.in-Close.is
-    (ap (λ (x : Reply). given_of x c.close.new.names c.close.new.nets) (rw c.table.ensures.same at c.closed_reply.ensures) ∙ c.close.ensures)
+returns-in-Close c = given c.args.t.now c.args.order.now c.args.names.now c.args.nets.now c.in-Close.is c.closed.ensures

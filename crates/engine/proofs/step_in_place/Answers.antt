@@ -1,5 +1,5 @@
 -- A broken table answers 1, whatever the call, and shows nothing; else the table is whole.
-use mathlib.Core.Path.{◌≡◌, refl, sym, ◌∙◌, ap}
+use mathlib.Core.Path.{◌≡◌, refl, sym, ◌∙◌}
 use mathlib.Core.Bool.{true}
 use mathlib.Core.List.{List}
 use Prim.Native.Nat.{ℕ}
@@ -8,13 +8,12 @@ use lib.IntN.{ℤ}
 use Rattle.call.specs.declared.Call.{Call}
 use Rattle.table.specs.declared.Table.{Table}
 use Rattle.table.specs.Broken.{broken}
-use Rattle.answer.specs.declared.reply.Reply.{Reply}
 use Rattle.answer.specs.Outcome.{make_outcome}
 use Rattle.answer.specs.Reply.{reply_by, given_by, given_of, plain_reply}
 use Rattle.answer.proofs.reply.Laws.{refused-step}
 use Rattle.engine.specs.Step.{conditions, effect, shown, step as step_by, number}
 use Rattle.engine.proofs.BrokenTable.{broken-one}
-use Rattle.engine.proofs.step.Goals as goal
+use Rattle.engine.proofs.step_in_place.Goals as goal
 
 -- a table that is broken is refused by 1, and nothing is shown
 refused : (t : Table) (c : Call) (order names : List ℕ) (nets : List ℤ) → broken t ≡ true → given_of (plain_reply (make_outcome 1 t)) names nets ≡ given_by (step_by t c order) names nets
@@ -24,8 +23,6 @@ refused t c order names nets bad =
 
 pub returns-then-broken : goal.returns-then-broken
 returns-then-broken c =
-    ap (λ (x : Reply). given_of x c.args.names.now c.args.nets.now) (rw c.number.ensures at c.plain_reply.ensures)
-    ∙ refused c.args.t c.args.c c.args.order.now c.args.names.now c.args.nets.now (sym c.broken.ensures ∙ c.if-broken.true)
-
-pub returns : goal.returns
-returns c = rw c.new.ensures at c.step_whole.ensures
+    let t = c.args.table.now in
+    rw (c.scored_answer.ensures, c.number.ensures, c.no_scores.ensures)
+    (refused t c.args.c c.args.order.now c.args.names.now c.args.nets.now (sym c.broken.ensures ∙ c.if-broken.true))
