@@ -1,6 +1,7 @@
 // The lines of an answer: all draws, then for each ending its count and its share in parts of ten thousand.
 use bank_chances::BankChances;
 use bank_chances::share::share;
+use stage::program::refused;
 use std::io;
 use std::io::Write;
 
@@ -15,20 +16,10 @@ const ENDINGS: [&str; 8] = [
     "unfinished",
 ];
 
-// The number is what is printed.
-pub(crate) fn refused<W: Write>(out: &mut W, number: u8) -> io::Result<()> {
-    writeln!(out, "refused {number}")
-}
-
-pub(crate) fn heading<W: Write>(out: &mut W, words: &[u8]) -> io::Result<()> {
-    out.write_all(words)?;
-    writeln!(out)
-}
-
 pub(crate) fn answer<W: Write>(out: &mut W, c: BankChances) -> io::Result<()> {
     // The number, as C reads it: 0 is accepted.
     if c.number != 0 {
-        return refused(out, c.number);
+        return refused(out, "refused", c.number);
     }
     writeln!(out, "draws {}", c.all)?;
     for (ending, count) in ENDINGS.iter().zip(&c.counts) {

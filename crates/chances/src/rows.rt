@@ -4,6 +4,7 @@ use bank_chances::chances;
 use faces_left::faces_left;
 use script::named::{cards_named, many_named, order_named};
 use script::{card, digit};
+use stage::program::{heading, refused};
 use std::io;
 use std::io::Write;
 
@@ -45,7 +46,7 @@ fn of_table<W: Write>(out: &mut W, row: Row<'_>) -> io::Result<()> {
     let found = faces_left(table);
     // The number, as C reads it: 0 is accepted.
     if found.number != 0 {
-        return lines::refused(out, found.number);
+        return refused(out, "refused", found.number);
     }
     lines::answer(out, chances(found.up, found.left, row.depth()))
 }
@@ -54,7 +55,7 @@ fn question<W: Write>(out: &mut W, row: Row<'_>) -> io::Result<()> {
     let up = card(row.front[2], row.front[3]);
     let decks = row.decks();
     let depth = row.depth();
-    lines::heading(out, row.all)?;
+    heading(out, row.all)?;
     match row.front[0] {
         b'd' => lines::answer(out, chances(up, packs::decks_less(decks, up), depth)),
         b'x' => lines::answer(out, chances(52, packs::decks_less(decks, 52), depth)),

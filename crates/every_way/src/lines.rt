@@ -5,20 +5,6 @@ use std::{fmt, io};
 use table::Table;
 use ways::{Way, way_at, ways_count};
 
-pub(crate) fn heading<W: Write>(out: &mut W, text: &[u8]) -> io::Result<()> {
-    out.write_all(text)?;
-    writeln!(out)
-}
-
-// A call that the script has wrong.
-// The number is what is printed.
-pub(crate) fn refused<W: Write>(out: &mut W, number: u8) -> io::Result<()> {
-    if number == 0 {
-        return Ok(());
-    }
-    writeln!(out, "  call refused {number}")
-}
-
 // A decision, by the kind that the engine gives it.
 // The kind is a byte of the way, which C reads.
 fn decision(kind: u8) -> &'static str {

@@ -2,6 +2,7 @@
 use crate::lines;
 use stage::Stage;
 use stage::calls::call_of;
+use stage::program::{heading, refused};
 use stage::row::Row;
 use std::io;
 use std::io::Write;
@@ -10,7 +11,7 @@ use std::io::Write;
 fn take<W: Write>(out: &mut W, stage: &mut Stage, row: Row<'_>) -> io::Result<()> {
     match row.letter() {
         b'#' => {}
-        b'=' => lines::heading(out, row.words)?,
+        b'=' => heading(out, row.words)?,
         b'W' => lines::every_way(out, stage.table)?,
         b'N' => {
             lines::counted_ways(out, stage.table)?;
@@ -22,7 +23,7 @@ fn take<W: Write>(out: &mut W, stage: &mut Stage, row: Row<'_>) -> io::Result<()
         }
         letter => {
             let answer = stage.play(call_of(letter, row.at(), row.amount()));
-            lines::refused(out, answer.number)?;
+            refused(out, "  call refused", answer.number)?;
         }
     }
     Ok(())

@@ -2,14 +2,10 @@
 use call::At;
 use host::shown::shown_card;
 use host_spec::Hosted;
+use stage::program::heading;
 use stage::shown::Net;
 use std::io;
 use std::io::Write;
-
-pub(crate) fn heading<W: Write>(out: &mut W, text: &[u8]) -> io::Result<()> {
-    out.write_all(text)?;
-    writeln!(out)
-}
 
 // The name of a call, its number, and the words of the script.
 // The number is what is printed.

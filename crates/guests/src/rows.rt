@@ -2,6 +2,7 @@
 use crate::calls::{host_call, host_call_name};
 use crate::lines;
 use crate::room::Room;
+use stage::program::heading;
 use stage::row::Row;
 use stage::shown::opening_number;
 use std::io;
@@ -17,7 +18,7 @@ fn play<W: Write>(out: &mut W, room: &mut Room, row: Row<'_>) -> io::Result<()> 
 fn take<W: Write>(out: &mut W, room: &mut Room, row: Row<'_>) -> io::Result<()> {
     match row.letter() {
         b'#' => {}
-        b'=' => lines::heading(out, row.words)?,
+        b'=' => heading(out, row.words)?,
         b'h' => lines::card(out, room.hosted, row.at())?,
         b'P' => room.put(row.at(), row.amount(), 0),
         b'T' => room.put(row.at(), 7, (row.amount() % 10_000_000) as u32),

@@ -9,6 +9,7 @@ use options::Options;
 use script::orders::{Order, begun_order};
 use stage::house::marked;
 use stage::pay_lines::PayLines;
+use stage::program::refused;
 use std::io;
 use std::io::{BufWriter, Write};
 use table::Table;
@@ -32,14 +33,6 @@ fn order() -> Order {
     )
 }
 
-// The number is what is printed.
-fn refused<W: Write>(out: &mut W, number: u8) -> io::Result<()> {
-    if number == 0 {
-        return Ok(());
-    }
-    writeln!(out, "refused {number}")
-}
-
 // The table, how many calls it has accepted, and the arrays that each is lent.
 #[derive(Drop)]
 struct Play {
@@ -51,7 +44,7 @@ struct Play {
 impl Play {
     fn open<W: Write>(out: &mut W) -> io::Result<Self> {
         let opened = outcome_in(&empty_table(), opening(house(), order().as_slice()));
-        refused(out, opened.number)?;
+        refused(out, "refused", opened.number)?;
         Ok(Play {
             table: opened.table,
             calls: 0,
@@ -67,7 +60,7 @@ impl Play {
         if reply.answer.number == 0 {
             self.calls = self.calls.saturating_add(1);
         }
-        refused(out, reply.answer.number)
+        refused(out, "refused", reply.answer.number)
     }
 
     // What all 27 guests do.

@@ -8,16 +8,11 @@ use display::seat::shown_seat;
 use display::{shown_table, shown_turn};
 use rules::seat_hand::{BY_DOUBLE, BY_EVEN, BY_STAND, BY_SURRENDER, DEALT, NOT_ENDED, SPLIT};
 use stage::Stage;
+use stage::program::heading;
 use stage::shown::{Cards, Total};
 use std::io::Write;
 use std::{fmt, io};
 use table::Table;
-
-// What the script says of the rows that follow.
-pub(crate) fn heading<W: Write>(out: &mut W, text: &[u8]) -> io::Result<()> {
-    out.write_all(text)?;
-    writeln!(out)
-}
 
 // Name and number of a call, tray, layout, all purses, cards left, and the words of the script.
 // The number is what is printed, here and below.

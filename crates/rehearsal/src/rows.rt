@@ -2,6 +2,7 @@
 use crate::calls::call;
 use crate::lines;
 use stage::Stage;
+use stage::program::heading;
 use stage::row::Row;
 use stage::shown::opening_number;
 use std::io;
@@ -20,7 +21,7 @@ fn open<W: Write>(out: &mut W, stage: &mut Stage, row: Row<'_>) -> io::Result<()
 fn take<W: Write>(out: &mut W, stage: &mut Stage, row: Row<'_>) -> io::Result<()> {
     match row.letter() {
         b'#' => Ok(()),
-        b'=' => lines::heading(out, row.words),
+        b'=' => heading(out, row.words),
         b'h' => lines::hands(out, stage.table, row.at()),
         b'a' => lines::aloud(out, stage.aloud),
         b'k' => lines::bank(out, stage.table),

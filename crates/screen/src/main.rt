@@ -4,16 +4,11 @@
 
 mod rows;
 
+use stage::program::answer_script;
 use std::io;
-use std::io::{BufWriter, Read, Write};
-
-// As many bytes as are read.
-const ROOM: u64 = 65536;
 
 fn main(rt: HostRuntime) -> io::Result<()> {
-    let mut text = Vec::new(rt.alloc());
-    rt.stdin().take(ROOM).read_to_end(&mut text)?;
-    let mut out = BufWriter::new(rt.alloc(), io::writer(&rt))?;
-    rows::each(&mut out, &text)?;
-    out.flush()
+    answer_script(&rt, rt.stdin(), io::writer(&rt), |out, text| {
+        rows::each(out, text)
+    })
 }

@@ -3,6 +3,7 @@ use call::At;
 use drawing::drawn;
 use stage::Stage;
 use stage::calls::call_of;
+use stage::program::heading;
 use stage::row::Row;
 use stage::shown::opening_number;
 use std::io;
@@ -49,10 +50,7 @@ impl Show {
     fn take<W: Write>(&mut self, out: &mut W, row: Row<'_>) -> io::Result<()> {
         match row.letter() {
             b'#' => {}
-            b'=' => {
-                out.write_all(row.words)?;
-                writeln!(out)?;
-            }
+            b'=' => heading(out, row.words)?,
             b'Q' => self.quiet = true,
             b'S' => self.quiet = false,
             b'o' => self.stage.take_order(row),

@@ -4,6 +4,7 @@
 pub mod calls;
 pub mod house;
 pub mod pay_lines;
+pub mod program;
 pub mod row;
 pub mod shown;
 
