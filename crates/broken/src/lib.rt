@@ -9,12 +9,11 @@ ghost use Rattle.std.specs.Prelude.{◌≡◌, true, ◌&&◌};
 ghost use Rattle.lists.specs.Below.{all_below};
 ghost use Rattle.table.specs.Broken.{seat_sound, sound_faces, sound_begun, sound_bank, sound_money, sound as is_sound, broken as is_broken};
 ghost use Rattle.money.specs.Sums.{table_sums};
-ghost use Rattle.card_count.specs.Aids.Counters.{Room};
 ghost use Rattle.card_count.specs.Aids.Left.{OfValid};
 ghost use Rattle.broken.specs.Aids.OfPass.{OfPass};
 
 use crate::hand::looked_at;
-use crate::seat::{Round, surveyed_crowd, surveyed_lone};
+use crate::seat::{Round, SeatLook};
 use card_count::conserved::{order_sound, out_is_drawn};
 use card_count::out_cards::count_seat;
 use money::most_money::past_most_money;
@@ -22,7 +21,6 @@ use money::sums::{Sums, no_sums, plus};
 use options::device::bank_at_deal;
 use options::in_range;
 use state::round::{is_dealt, up};
-use state::seat::nobody_beside;
 use state::shape::seats_shape;
 use table::{Shoe, Table};
 
@@ -35,11 +33,10 @@ struct Held {
 
 // The one pass over the nine seats: it tests them, adds up their money and counts their hands' cards; nothing where one is not sound. The hands are looked at here, at one place, so that the compiler puts the look into the loop.
 fn surveyed(of: &mut [u16; 256], t: &Table) -> Option<Held>
-    requires { Room of.old 720 }
     ensures { OfPass t.now of.old of.new result }
 {
     seats_shape(&t.seats);
-    let r = Round {
+    let round = Round {
         options: t.options,
         dealt: is_dealt(*t),
         up: up(*t),
@@ -50,13 +47,13 @@ fn surveyed(of: &mut [u16; 256], t: &Table) -> Option<Held>
         if s.hands.many != 0 {
             cards += count_seat(of, s.hands);
         }
-        let look = looked_at(r.options, r.up, s.money.stake, s.hands);
-        let one = if nobody_beside(s.others) {
-            surveyed_lone(r, i, *s, look)
-        } else {
-            surveyed_crowd(r, i, *s, look)
+        let seat = SeatLook {
+            round,
+            number: i,
+            seat: s,
+            look: looked_at(round.options, round.up, s.money.stake, &s.hands),
         };
-        sums = plus(sums, one?);
+        sums = plus(sums, seat.surveyed()?);
     }
     Some(Held { sums, cards })
 }

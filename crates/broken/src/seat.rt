@@ -1,25 +1,24 @@
 // Whether a seat of any table value is sound (docs/BROKEN.md, 4): number, stake, insurance, side stakes and prizes of each guest, and its hands, tested as
 // `table/specs/Broken.antt` does. Every damaged value is taken.
-ghost use Rattle.std.specs.Prelude.{◌≡◌, true, ◌&&◌, ◌||◌, ℕ, ◌+◌, ◌<◌, eqb, leb, ltb, get_or, take};
-ghost use Rattle.lists.specs.Tests.{all_of};
+ghost use Rattle.std.specs.Prelude.{◌≡◌, true, ◌&&◌, ◌||◌, ◌+◌, eqb, leb, ltb, get_or};
 ghost use Rattle.lists.specs.Below.{all_below};
 ghost use Rattle.options.specs.Permitted.{most_side};
 ghost use Rattle.table.specs.Guest.{nobody_in};
-ghost use Rattle.table.specs.Seat.{guest_at, each_guest, purse};
-ghost use Rattle.table.specs.Broken.{sound_number, sound_stake, sound_insurance, sound_sides, sound_hand, sound_hands, sound_guest, seated_first, sound_seat};
-ghost use Rattle.money.specs.Sums.{guest_sums, seat_sums, plus_sums};
+ghost use Rattle.table.specs.Seat.{with_money, each_guest, purse};
+ghost use Rattle.table.specs.Broken.{sound_number, sound_stake, sound_insurance, sound_sides, sound_hands, sound_guest, seated_first};
+ghost use Rattle.money.specs.Sums.{guest_sums, seat_sums};
 ghost use Rattle.money.specs.SumsFit.{SumsFit};
 ghost use Rattle.broken.specs.Aids.AtRest.{AtRest};
 ghost use Rattle.broken.specs.Aids.LookedAt.{LookedAt};
-ghost use Rattle.broken.specs.Aids.Surveyed.{Surveyed};
+ghost use Rattle.broken.specs.Aids.Surveyed.{Surveyed, SurveyedGuest, SurveyedSeat};
 
 use crate::hand::Looked;
 use cards::card::is_ace;
 use money::sums::{Sums, guest_sums, no_sums, played_sums, plus, purse_sums};
 use options::Options;
 use options::permitted::{insurance_permitted, stake_permitted};
-use state::seat::{guest_at, no_money, no_sides};
-use table::Seat;
+use state::seat::{no_money, no_sides, nobody_beside};
+use table::{Money, Seat};
 
 // The round that a seat is in: the options, whether it is dealt, and its up card.
 #[derive(Clone, Copy)]
@@ -27,6 +26,16 @@ pub(crate) struct Round {
     pub(crate) options: Options,
     pub(crate) dealt: bool,
     pub(crate) up: u8,
+}
+
+// A seat in its round, by its number, with the look at its hands. The seat is lent: over a copy of each of the nine the bench takes 227 instructions a call more.
+#[derive(Clone, Copy)]
+pub(crate) struct SeatLook<'a> {
+    pub(crate) round: Round,
+    pub(crate) number: usize,
+    pub(crate) seat: &'a Seat,
+    pub(crate) look: Looked,
+    ghost looked: { LookedAt round.options round.up seat.now.money.stake seat.now.hands look },
 }
 
 // A guest of a seat beyond the option holds nothing.
@@ -70,19 +79,6 @@ fn sound_sides(s: Seat) -> bool
     no_sides(s.money.sides) || (0 < s.money.stake && small_sides(s.money.sides))
 }
 
-// No hand and none due, or hands within the option in a dealt round, each of them sound, as `each` says.
-#[tactic(auto, unfolding(table::specs::Broken::sound_hands))]
-fn sound_hands(r: Round, s: Seat, each: bool) -> bool
-    requires { each ≡ all_of (sound_hand r.options r.up s.hands.many) (take s.hands.many s.hands.places) }
-    ensures { result ≡ sound_hands r.options r.dealt r.up s }
-{
-    if s.hands.many == 0 {
-        !(r.dealt && 0 < s.money.stake)
-    } else {
-        s.hands.many <= r.options.hands && (r.dealt && (0 < s.money.stake && each))
-    }
-}
-
 // The prizes are within purse and laid, compared so that no sum wraps.
 fn sound_prizes(s: Seat, m: Sums) -> bool
     ensures { result ≡ leb m.prizes (purse s + m.laid) }
@@ -104,23 +100,10 @@ fn sound_guest(r: Round, i: usize, s: Seat, m: Sums) -> bool
 
 // Guests tested give their sums, which are so worked out once, or nothing where one is not sound.
 fn surveyed_guest(r: Round, i: usize, s: Seat) -> Option<Sums>
-    ensures { Surveyed (sound_guest r.options r.dealt r.up i s) (guest_sums r.options s) 1 result }
+    ensures { SurveyedGuest r i s result }
 {
     let sums = guest_sums(r.options, s);
     sound_guest(r, i, s, sums).then_some(sums)
-}
-
-// A guest beside the seated one. Most seats have none: then nothing but the seat's number is asked.
-fn surveyed_other(r: Round, i: usize, s: Seat, p: u8) -> Option<Sums>
-    requires { p < 3 }
-    ensures { Surveyed (sound_guest r.options r.dealt r.up i (guest_at s p)) (guest_sums r.options (guest_at s p)) 1 result }
-{
-    let g = guest_at(s, p);
-    if no_money(g.money) {
-        sound_number(r.options, i, g).then_some(no_sums())
-    } else {
-        surveyed_guest(r, i, g)
-    }
 }
 
 // The seated guest stakes first.
@@ -131,58 +114,12 @@ fn seated_first(s: Seat) -> bool
     0 < s.money.stake || (s.others[0].stake == 0 && s.others[1].stake == 0)
 }
 
-// What the guests of a seat share. `look`, here and below: the look at its hands.
-fn sound_shared(r: Round, s: Seat, look: Looked) -> bool
-    requires { LookedAt r.options r.up s.money.stake s.hands look }
-    ensures { result ≡ (seated_first s && sound_hands r.options r.dealt r.up s) }
-{
-    seated_first(s) && sound_hands(r, s, look.sound)
-}
-
-// The three guests of a seat.
-fn surveyed_guests(r: Round, i: usize, s: Seat) -> Option<Sums>
-    ensures { Surveyed (each_guest (sound_guest r.options r.dealt r.up i) s) (seat_sums r.options s) 3 result }
-{
-    let seated = surveyed_guest(r, i, s)?;
-    let one = surveyed_other(r, i, s, 1)?;
-    let two = surveyed_other(r, i, s, 2)?;
-    Some(plus(plus(seated, one), two))
-}
-
-// A seat with bets beside the seated guest: each of its guests, and what they share.
-pub(crate) fn surveyed_crowd(r: Round, i: usize, s: Seat, look: Looked) -> Option<Sums>
-    requires { LookedAt r.options r.up s.money.stake s.hands look }
-    ensures { Surveyed (sound_seat r.options r.dealt r.up i s) (seat_sums r.options s) 3 result }
-{
-    let guests = surveyed_guests(r, i, s)?;
-    sound_shared(r, s, look).then_some(guests)
-}
-
 // Whether the guest has no stake of any kind, and the seat no hand.
 fn at_rest(s: Seat) -> bool
     ensures { result ≡ true → AtRest s }
 {
     let m = s.money;
     (s.hands.many == 0) & (m.stake == 0) & (m.insurance == 0) & no_sides(m.sides)
-}
-
-// The guest alone at a seat, and its hands; `each`: all of these are sound, `m`: the guest's sums.
-fn sound_alone(r: Round, i: usize, s: Seat, each: bool, m: Sums) -> bool
-    requires sums { m ≡ guest_sums r.options s }
-    requires hands { each ≡ all_of (sound_hand r.options r.up s.hands.many) (take s.hands.many s.hands.places) }
-    ensures { result ≡ (sound_guest r.options r.dealt r.up i s && sound_hands r.options r.dealt r.up s) }
-{
-    sound_guest(r, i, s, m) && sound_hands(r, s, each)
-}
-
-// A guest alone at a seat, with a stake or a hand.
-fn surveyed_alone(r: Round, i: usize, s: Seat, look: Looked) -> Option<Sums>
-    requires lone { nobody_in s.others ≡ true }
-    requires hands { LookedAt r.options r.up s.money.stake s.hands look }
-    ensures { Surveyed (sound_seat r.options r.dealt r.up i s) (seat_sums r.options s) 3 result }
-{
-    let sums = played_sums(s, look.wagers, look.prizes);
-    sound_alone(r, i, s, look.sound, sums).then_some(sums)
 }
 
 // At a seat beyond the option a guest has no purse.
@@ -192,15 +129,112 @@ fn purse_fits(o: Options, i: usize, purse: u64) -> bool
     i < (o.seats as usize) || purse == 0
 }
 
-// A seat where nobody bets beside the seated guest. A seat at rest is passed over: nothing but its number is asked, and its sums are the purse alone.
-pub(crate) fn surveyed_lone(r: Round, i: usize, s: Seat, look: Looked) -> Option<Sums>
-    requires lone { nobody_in s.others ≡ true }
-    requires hands { LookedAt r.options r.up s.money.stake s.hands look }
-    ensures { Surveyed (sound_seat r.options r.dealt r.up i s) (seat_sums r.options s) 3 result }
-{
-    if at_rest(s) {
-        purse_fits(r.options, i, s.money.purse).then_some(purse_sums(s.money.purse))
-    } else {
-        surveyed_alone(r, i, s, look)
+// A seat's type bounds its guest's sums: behind a reference this has to be handed on as a fact.
+fn guest_fits(o: Options, s: Seat)
+    ensures { SumsFit 1 (guest_sums o s) }
+{}
+
+impl<'a> SeatLook<'a> {
+    // No hand and none due, or hands within the option in a dealt round, each of them sound.
+    #[tactic(auto, unfolding(table::specs::Broken::sound_hands))]
+    fn sound_hands(self) -> bool
+        ensures { result ≡ sound_hands self.entry.round.options self.entry.round.dealt self.entry.round.up self.entry.seat.now }
+    {
+        let SeatLook {
+            round,
+            seat,
+            look,
+            ..
+        } = self;
+        if seat.hands.many == 0 {
+            !(round.dealt && 0 < seat.money.stake)
+        } else {
+            seat.hands.many <= round.options.hands
+                && (round.dealt && (0 < seat.money.stake && look.sound))
+        }
+    }
+
+    // What the guests of the seat share.
+    fn sound_shared(self) -> bool
+        ensures { result ≡ (seated_first self.entry.seat.now && sound_hands self.entry.round.options self.entry.round.dealt self.entry.round.up self.entry.seat.now) }
+    {
+        seated_first(*self.seat) && self.sound_hands()
+    }
+
+    // A guest with that money beside the seated one. Most seats have none: then nothing but the seat's number is asked.
+    fn surveyed_other(self, m: Money) -> Option<Sums>
+        ensures { SurveyedGuest self.entry.round self.entry.number (with_money self.entry.seat.now m) result }
+    {
+        let g = Seat {
+            money: m,
+            ..*self.seat
+        };
+        if no_money(m) {
+            sound_number(self.round.options, self.number, g).then_some(no_sums())
+        } else {
+            surveyed_guest(self.round, self.number, g)
+        }
+    }
+
+    // The three guests of the seat.
+    #[tactic(auto, unfolding(table::specs::Seat::guest_at))]
+    fn surveyed_guests(self) -> Option<Sums>
+        ensures { Surveyed (each_guest (sound_guest self.entry.round.options self.entry.round.dealt self.entry.round.up self.entry.number) self.entry.seat.now) (seat_sums self.entry.round.options self.entry.seat.now) 3 result }
+    {
+        let s = *self.seat;
+        let seated = surveyed_guest(self.round, self.number, s)?;
+        let one = self.surveyed_other(s.others[0])?;
+        let two = self.surveyed_other(s.others[1])?;
+        Some(plus(plus(seated, one), two))
+    }
+
+    // A seat with bets beside the seated guest: each of its guests, and what they share.
+    fn surveyed_crowd(self) -> Option<Sums>
+        ensures { SurveyedSeat self.entry.round self.entry.number self.entry.seat.now result }
+    {
+        let guests = self.surveyed_guests()?;
+        self.sound_shared().then_some(guests)
+    }
+
+    // The guest alone at the seat, and its hands; `m`: the guest's sums.
+    fn sound_alone(self, m: Sums) -> bool
+        requires { m ≡ guest_sums self.round.options self.seat.now }
+        ensures { result ≡ (sound_guest self.entry.round.options self.entry.round.dealt self.entry.round.up self.entry.number self.entry.seat.now && sound_hands self.entry.round.options self.entry.round.dealt self.entry.round.up self.entry.seat.now) }
+    {
+        sound_guest(self.round, self.number, *self.seat, m) && self.sound_hands()
+    }
+
+    // A guest alone at the seat, with a stake or a hand.
+    fn surveyed_alone(self) -> Option<Sums>
+        requires { nobody_in self.seat.now.others ≡ true }
+        ensures { SurveyedSeat self.entry.round self.entry.number self.entry.seat.now result }
+    {
+        guest_fits(self.round.options, *self.seat);
+        let sums = played_sums(*self.seat, self.look.wagers, self.look.prizes);
+        self.sound_alone(sums).then_some(sums)
+    }
+
+    // A seat where nobody bets beside the seated guest. A seat at rest is passed over: nothing but its number is asked, and its sums are the purse alone.
+    fn surveyed_lone(self) -> Option<Sums>
+        requires { nobody_in self.seat.now.others ≡ true }
+        ensures { SurveyedSeat self.entry.round self.entry.number self.entry.seat.now result }
+    {
+        let purse = self.seat.money.purse;
+        if at_rest(*self.seat) {
+            purse_fits(self.round.options, self.number, purse).then_some(purse_sums(purse))
+        } else {
+            self.surveyed_alone()
+        }
+    }
+
+    // The sums of the seat's guests, or nothing where the seat is not sound.
+    pub(crate) fn surveyed(self) -> Option<Sums>
+        ensures { SurveyedSeat self.entry.round self.entry.number self.entry.seat.now result }
+    {
+        if nobody_beside(self.seat.others) {
+            self.surveyed_lone()
+        } else {
+            self.surveyed_crowd()
+        }
     }
 }

@@ -4,7 +4,6 @@ ghost use Rattle.lists.specs.Flat.{flat};
 ghost use Rattle.cards.specs.Hand.{cards_of};
 ghost use Rattle.rules.specs.SeatHand.{hands_of};
 ghost use Rattle.table.specs.Table.{hand_cards, bank_cards};
-ghost use Rattle.card_count.specs.Aids.Counters.{Room};
 ghost use Rattle.card_count.specs.Aids.Counted.{Counted};
 
 use crate::counters::count;
@@ -14,7 +13,6 @@ use table::Table;
 
 // A hand's cards.
 pub(crate) fn count_hand(of: &mut [u16; 256], h: Hand) -> usize
-    requires { Room of.old 20 }
     ensures { Counted of.old of.new (cards_of h) result 20 }
 {
     let cards = h.held_cards();
@@ -24,7 +22,6 @@ pub(crate) fn count_hand(of: &mut [u16; 256], h: Hand) -> usize
 
 // The cards of a seat's hands.
 pub fn count_seat(of: &mut [u16; 256], s: SeatHands) -> usize
-    requires { Room of.old 80 }
     ensures { Counted of.old of.new (flat (λ h. h.cards) (hands_of s)) result 80 }
 {
     let mut many = 0;
@@ -36,7 +33,6 @@ pub fn count_seat(of: &mut [u16; 256], s: SeatHands) -> usize
 
 // The cards of all seats' hands. A seat without a hand is passed over.
 pub(crate) fn count_seats(of: &mut [u16; 256], t: Table) -> usize
-    requires { Room of.old 720 }
     ensures { Counted of.old of.new (hand_cards t) result 720 }
 {
     let mut many = 0;
@@ -50,7 +46,6 @@ pub(crate) fn count_seats(of: &mut [u16; 256], t: Table) -> usize
 
 // The cards in hands and with the bank.
 pub(crate) fn count_in_play(of: &mut [u16; 256], t: Table) -> usize
-    requires { Room of.old 740 }
     ensures { Counted of.old of.new (hand_cards t ++ bank_cards t) result 740 }
 {
     let hands = count_seats(of, t);

@@ -1,7 +1,7 @@
 -- A part of a list from a place on, and the counts of one face more.
 use mathlib.Core.Path.{◌≡◌, sym, ◌∙◌, ap}
 use mathlib.Core.List.{List, ◌++◌}
-use Prim.Native.Nat.{ℕ, ◌+◌, ◌-◌, ◌≤◌, ◌<◌}
+use Prim.Native.Nat.{ℕ, ◌+◌, ◌-◌, ◌^◌, ◌≤◌, ◌<◌}
 use native.Mathlib.Numerals.{add-one}
 use native.Mathlib.Omega.{arith}
 use lib.ListN.{length, get_or, take, drop, set, length-take, length-drop}
@@ -22,6 +22,6 @@ pub face_stored : (cards counts : List ℕ) (face many : ℕ) → face < length 
 unfolding counts_below
 face_stored cards counts face many h so e = rw (add-one, take-suc-set counts face many h, so, e)
 
--- the counters of two lists, one after the other
-pub both-counted : (first second of : List ℕ) (face : ℕ) → of ≡ counted_all (counted_all no_counts first) second → face < 256 → get_or of face 0 ≡ count_of face (first ++ second)
-both-counted first second of face so h = ap (λ (l : List ℕ). get_or l face 0) (so ∙ sym (counted-append no_counts first second)) ∙ counted_zeros (first ++ second) face h
+-- the counters of two lists, one after the other, where they do not wrap
+pub both-counted : (first second of : List ℕ) (face : ℕ) → of ≡ counted_all (counted_all no_counts first) second → face < 256 → count_of face (first ++ second) < 2 ^ 16 → get_or of face 0 ≡ count_of face (first ++ second)
+both-counted first second of face so h few = ap (λ (l : List ℕ). get_or l face 0) (so ∙ sym (counted-append no_counts first second)) ∙ counted_zeros (first ++ second) face h few

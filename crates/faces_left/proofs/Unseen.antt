@@ -7,7 +7,7 @@ use native.Mathlib.Nat.{not-suc-le-zero}
 use native.Mathlib.Omega.{arith}
 use borrow.Author.Tests.{ltb-true, eqb-true}
 use lib.Dec.{ltb, eqb}
-use lib.ListN.{length, get_or, drop, take-append-drop, length-take, length-drop}
+use lib.ListN.{length, get_or, drop, take-append-drop}
 use Rattle.lists.specs.Below.{all_below}
 use Rattle.lists.specs.Sum.{sum_of, is_it, count_of}
 use Rattle.lists.specs.Tests.{all_of}
@@ -18,7 +18,7 @@ use Rattle.table.specs.declared.Table.{Table}
 use Rattle.table.specs.Broken.{broken}
 use Rattle.table.specs.Shoe.{valid_order}
 use Rattle.table.specs.Table.{hand_cards, bank_cards, table_discards, table_order, table_drawn, table_shoe, is_dealt, up}
-use Rattle.table.proofs.Facts.{unbroken, sound_options, decks_416}
+use Rattle.table.proofs.Facts.{unbroken, sound_options}
 use Rattle.faces_left.specs.Unseen.{SeenAndLeft}
 use Rattle.faces_left.specs.Aids.Few.{Few}
 
@@ -53,19 +53,10 @@ seen_and_left t whole dealt face h =
       each_decks t.options.decks face order f.valid h,
     )
 
--- so the counters hold them, and a byte each
-pub few_left : (t : Table) → length t.bank.cards ≡ 20 → broken t ≡ false → is_dealt t ≡ true → Few (table_shoe t) (drop 1 (bank_cards t))
-few_left t twenty whole dealt =
+-- so a byte holds the number of each
+pub few_left : (t : Table) → broken t ≡ false → is_dealt t ≡ true → Few (table_shoe t) (drop 1 (bank_cards t))
+few_left t whole dealt =
     record {
-      all =
-          omega (
-            arith,
-            length-drop t.shoe.drawn (table_order t),
-            length-take (52 * t.options.decks) t.shoe.order,
-            decks_416 t (unbroken t whole),
-            length-drop 1 (bank_cards t),
-            length-take t.bank.count t.bank.cards,
-          );
       each = λ face h.
           omega (arith, seen_and_left t whole dealt face h, sum-append (is_it face) (table_shoe t) (drop 1 (bank_cards t)), (sound_options t (unbroken t whole)).decks_most);
     }

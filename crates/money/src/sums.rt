@@ -1,17 +1,17 @@
 // The money of all guests of all seats, summed in one pass. Every table is taken: a damaged purse is cut before it is added, so no sum wraps.
-ghost use Rattle.std.specs.Prelude.{◌≡◌, ◌<◌};
+ghost use Rattle.std.specs.Prelude.{◌≡◌};
 ghost use Rattle.lists.specs.Sum.{sum_of};
 ghost use Rattle.rules.specs.SeatHand.{hands_of};
 ghost use Rattle.payment.specs.Wager.{wager as wager_of};
-ghost use Rattle.table.specs.Seat.{guest_at, stake as stake_of, purse as purse_of, laid as laid_of, seat_cover};
+ghost use Rattle.table.specs.Seat.{with_money, stake as stake_of, purse as purse_of, laid as laid_of, seat_cover};
 ghost use Rattle.money.specs.Sums.{make_sums, no_sums, capped, guest_sums, seat_sums, plus_sums, table_sums};
 ghost use Rattle.money.specs.SumsFit.{SumsFit};
 
 use crate::seat_money::{laid_with, prizes, wagers};
 use options::Options;
 use payment::cover::{cover, side_cover};
-use state::seat::{guest_at, guest_money, no_money, nobody_beside};
-use table::{Seat, Table};
+use state::seat::{no_money, nobody_beside};
+use table::{Money, Seat, Table};
 
 // All money on a table is at most 10^15.
 pub(crate) const MOST_MONEY: u64 = 1000000000000000;
@@ -105,32 +105,31 @@ fn with_guest_sums(all: Sums, o: Options, s: Seat) -> Sums
     plus(all, guest_sums(o, s))
 }
 
-// The same for a guest beside the seated one; one who has nothing is passed over.
-fn with_other_sums(all: Sums, o: Options, s: Seat, p: u8) -> Sums
-    requires fit { SumsFit 26 all }
-    requires position { p < 3 }
-    ensures same { result ≡ plus_sums all (guest_sums o (guest_at s p)) }
-    ensures small { SumsFit 1 (guest_sums o (guest_at s p)) }
+// The same for a guest with that money beside the seated one; one who has nothing is passed over.
+fn with_other_sums(all: Sums, o: Options, s: Seat, m: Money) -> Sums
+    requires { SumsFit 26 all }
+    ensures same { result ≡ plus_sums all (guest_sums o (with_money s m)) }
+    ensures small { SumsFit 1 (guest_sums o (with_money s m)) }
 {
-    if no_money(guest_money(s, p)) {
+    if no_money(m) {
         all
     } else {
-        with_guest_sums(all, o, guest_at(s, p))
+        with_guest_sums(all, o, Seat { money: m, ..s })
     }
 }
 
 // The sums with those of one seat more.
-fn with_seat_sums(all: Sums, o: Options, s: Seat) -> Sums
+fn with_seat_sums(all: Sums, o: Options, s: &Seat) -> Sums
     requires { SumsFit 24 all }
-    ensures same { result ≡ plus_sums all (seat_sums o s) }
-    ensures small { SumsFit 3 (seat_sums o s) }
+    ensures same { result ≡ plus_sums all (seat_sums o s.now) }
+    ensures small { SumsFit 3 (seat_sums o s.now) }
 {
-    let seated = with_guest_sums(all, o, s);
+    let seated = with_guest_sums(all, o, *s);
     if nobody_beside(s.others) {
         return seated;
     }
-    let two = with_other_sums(seated, o, s, 1);
-    with_other_sums(two, o, s, 2)
+    let two = with_other_sums(seated, o, *s, s.others[0]);
+    with_other_sums(two, o, *s, s.others[1])
 }
 
 // The sums of all nine seats.
@@ -139,7 +138,7 @@ pub fn table_sums(t: Table) -> Sums
 {
     let mut all = no_sums();
     for s in &t.seats {
-        all = with_seat_sums(all, t.options, *s);
+        all = with_seat_sums(all, t.options, s);
     }
     all
 }

@@ -7,7 +7,6 @@ use Rattle.table.specs.Table.{seat_at, is_dealt, up}
 use Rattle.table.specs.Broken.{seat_sound, sound_bank}
 use Rattle.table.proofs.Facts.{seat_facts}
 use Rattle.money.proofs.sums.Capping.{some_stakes}
-use borrow.Author.Rules.{rules}
 use Rattle.broken.proofs.bank_sound.Goals as goal
 
 pub returns-then-t-bank_at_deal : goal.returns-then-t-bank_at_deal

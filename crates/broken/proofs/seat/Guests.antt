@@ -72,11 +72,11 @@ module _ (o : Options) (in_round : Bool) (up i : ℕ) where
       let sided = sides-none g (below_all _ 4 (λ k h. eq-eqb _ _ (bets.no_sides k h))) in
       simp (bets.no_stake_lem, bets.no_insurance, sided, unstaked_prizes o g bets.no_stake_lem, le-leb 0 (purse g + laid g) (omega arith), and-true)
 
-  pub empty-surveyed : (r g : Seat) (sound : Bool) (sums : Sums) → r ≡ g → purse r ≡ 0 → NoBets r → sound ≡ sound_number o i r → sums ≡ no_sums
+  pub empty-surveyed : (g : Seat) (sound : Bool) (sums : Sums) → purse g ≡ 0 → NoBets g → sound ≡ sound_number o i g → sums ≡ no_sums
       → Tested (passes g) (guest_sums o g) 1 (record { sound = sound; sums = sums })
-  empty-surveyed r g sound sums same none bets number zero =
-      let nothing : guest_sums o g ≡ no_sums = ap (guest_sums o) (sym same) ∙ nothing_summed o r none bets in
-      record { sound = number ∙ sym (empty-sound r bets) ∙ ap passes same; sums = zero ∙ sym nothing; fits = rw nothing (fits_in_lem 0 1 no_sums (omega arith) no_guests_fit) }
+  empty-surveyed g sound sums none bets number zero =
+      let nothing = nothing_summed o g none bets in
+      record { sound = number ∙ sym (empty-sound g bets); sums = zero ∙ sym nothing; fits = rw nothing (fits_in_lem 0 1 no_sums (omega arith) no_guests_fit) }
 
   module _ (s : Seat) where
     -- the seated guest and the two others
@@ -111,7 +111,7 @@ module _ (o : Options) (in_round : Bool) (up i : ℕ) where
         beside p = record { sound = sound_number o i (guest_at s p); sums = no_sums }
 
         surveyed : (p : ℕ) → is_nobody (guest_at s p).money ≡ true → Tested (passes (guest_at s p)) (guest_sums o (guest_at s p)) 1 (beside p)
-        surveyed p none = let (purse, bets) = nothing_facts (guest_at s p) none in empty-surveyed (guest_at s p) (guest_at s p) (sound_number o i (guest_at s p)) no_sums refl purse bets refl refl
+        surveyed p none = let (purse, bets) = nothing_facts (guest_at s p) none in empty-surveyed (guest_at s p) (sound_number o i (guest_at s p)) no_sums purse bets refl refl
 
         added : (p : ℕ) → is_nobody (guest_at s p).money ≡ true → (a.sound ≡ a.sound && (beside p).sound) × (a.sums ≡ plus_sums a.sums (beside p).sums)
         added p none = (go a.sound seated.sound, sym (none_more a.sums))

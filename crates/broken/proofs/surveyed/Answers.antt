@@ -1,5 +1,5 @@
 -- `surveyed` looks seat by seat: before each turn the first i are sound, their sums added up and their cards counted, and the first that is not sound decides.
-use mathlib.Core.Path.{◌≡◌, refl, sym, ap, ◌∙◌, subst}
+use mathlib.Core.Path.{◌≡◌, refl, sym, ap, ◌∙◌}
 use mathlib.Core.Bool.{Bool, true, false, true≢false}
 use mathlib.Core.List.{List, map}
 use Prim.Native.Nat.{ℕ, ◌+◌, ◌*◌, ◌≤◌, ◌<◌}
@@ -19,15 +19,13 @@ use Rattle.table.specs.declared.Table.{Table}
 use Rattle.table.specs.Seat.{missing_seat, seat_cards}
 use Rattle.table.specs.Table.{is_dealt, up}
 use Rattle.table.specs.Broken.{sound_seat, seat_sound}
-use Rattle.money.specs.Sums.{seat_sums, sums_over}
+use Rattle.money.specs.Sums.{sums_over}
 use Rattle.money.proofs.sums.Pass.{next-seat, no_guests_fit, three_more}
 use Rattle.card_count.specs.Aids.Counters.{counted_all}
 use Rattle.card_count.specs.Aids.Counted.{Counted}
-use Rattle.card_count.proofs.out_cards.Counting.{counted_none, counted_next, counted-room, counted_is, counted-at}
-use Rattle.broken.specs.Aids.Surveyed.{Surveyed}
+use Rattle.card_count.proofs.out_cards.Counting.{counted_none, counted_next, counted_is, counted-at}
 use Rattle.broken.proofs.seat.Guests.{passed, failed}
-use borrow.Author.Rules.{rules}
-use Rattle.broken.proofs.surveyed.Goals.{Joined-s-ne0, Joined-nobody_beside, then-s-ne0, else-s-ne0, then-nobody_beside, else-nobody_beside}
+use Rattle.broken.proofs.surveyed.Goals.{Joined-s-ne0, then-s-ne0, else-s-ne0}
 use Rattle.broken.proofs.surveyed.Goals as goal
 
 -- the test of a seat, with what is worked out before the loop
@@ -67,34 +65,20 @@ counted c =
           (counted_next seat_cards t.seats 80 at.i missing_seat below at.invariant.4 (no_hand at.of s.hands.many s.hands.places (omega (arith, w.if-s-ne0.false))))
     ]
 
--- by either way the seat is surveyed
-joined : (c : Joined-nobody_beside)
-    → let t = c.args.t.now in
-    Surveyed (passes t.options c.is_dealt.result c.up.result t.seats c.loop-i.i) (seat_sums t.options (get_or t.seats c.loop-i.i missing_seat)) 3 c.if-nobody_beside.one
-joined c =
-    elim c.if-nobody_beside.branch [
-      | then-nobody_beside w ↦ subst (Surveyed _ _ 3) (sym w.one-is) w.surveyed_lone-one.ensures
-      | else-nobody_beside w ↦ subst (Surveyed _ _ 3) (sym w.one-is) w.surveyed_crowd-one.ensures
-    ]
-
 pub loop-i-init : goal.loop-i-init
 unfolding all_below sum_of
 loop-i-init c =
     let none = c.no_sums-sums.ensures in
     (omega arith, refl, none, rw none no_guests_fit, counted_none seat_cards c.args.t.now.seats 80 _)
 
-pub count_seat-requires : goal.count_seat-requires
-count_seat-requires c =
-    counted-room 720 80 c.requires c.loop-i.invariant.4 (omega arith)
-
-pub returns-in_err-one : goal.returns-in_err-one
-returns-in_err-one c =
+pub returns-in_err-surveyed : goal.returns-in_err-surveyed
+returns-in_err-surveyed c =
     let t = c.args.t.now in
     let card = c.up in
     let dealt = c.is_dealt in
     rw c.from_residual.ensures (record {
       each =
-          fails (passes t.options dealt.result card.result t.seats) c.loop-i.i (omega (arith, c.loop-i-test.true)) (failed _ _ _ _ (joined (goal.at.returns-in_err-one c).Joined-nobody_beside) c.in_err-one.was)
+          fails (passes t.options dealt.result card.result t.seats) c.loop-i.i (omega (arith, c.loop-i-test.true)) (failed _ _ _ _ c.surveyed.ensures c.in_err-surveyed.was)
           ∙ same t card.result dealt.result dealt.ensures card.ensures;
       sums = tt;
       counted = tt;
@@ -107,8 +91,8 @@ loop-i-preserved c =
     let dealt = c.is_dealt in
     let i = c.loop-i.i in
     let full : length t.seats ≡ 9 = c.seats_shape.ensures in
-    let m = c.in_ok-one.field-0 in
-    let one = passed _ _ 3 _ m (joined (goal.at.loop-i-preserved c).Joined-nobody_beside) c.in_ok-one.was in (
+    let m = c.in_ok-surveyed.field-0 in
+    let one = passed _ _ 3 _ m c.surveyed.ensures c.in_ok-surveyed.was in (
       omega arith,
       below_passes (passes t.options dealt.result card.result t.seats) i (sym one.sound) ∙ c.loop-i.invariant.1,
       c.plus-sums.ensures ∙ next-seat t.options t.seats i (omega arith) c.loop-i.sums m c.loop-i.invariant.2 one.sums,

@@ -21,5 +21,5 @@ passes r seats i = sound_seat r.options r.dealt r.up i (get_or seats i missing_s
 
 abbrev pub invariant-loop-i : goal.invariant-loop-i
 invariant-loop-i l =
-    (l.i ≤ 9) × (all_below (passes l.r l.fn.t.seats) l.i ≡ true) × (l.sums ≡ sums_over l.r.options (take l.i l.fn.t.seats)) × SumsFit (3 * l.i) l.sums
+    (l.i ≤ 9) × (all_below (passes l.round l.fn.t.seats) l.i ≡ true) × (l.sums ≡ sums_over l.round.options (take l.i l.fn.t.seats)) × SumsFit (3 * l.i) l.sums
     × Counted l.initial.of l.of (flat seat_cards (take l.i l.fn.t.seats)) l.cards (80 * l.i)

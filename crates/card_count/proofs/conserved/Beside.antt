@@ -14,9 +14,8 @@ use Rattle.lists.specs.Below.{all_below}
 use Rattle.lists.proofs.Sums.{sum-append}
 use Rattle.lists.proofs.Below.{all_below_lem, below_all}
 use Rattle.lists.proofs.Parts.{part_of_take, sum_more}
-use Rattle.card_count.specs.Aids.Counters.{no_counts, counted_all, Room}
-use Rattle.card_count.proofs.counters.Counts.{counted-append, room_after, room-zeros}
-use Rattle.card_count.specs.Aids.Left.{Left, left_and_first}
+use Rattle.card_count.specs.Aids.Counters.{no_counts, counted_all}
+use Rattle.card_count.proofs.counters.Counts.{counted-append}
 use Rattle.table.specs.Shoe.{valid_order}
 use Rattle.card_count.proofs.valid_order.Orders.{faces_valid, faces-decide, valid_count}
 
@@ -29,25 +28,6 @@ both_ways false false to from = refl
 -- what is left of the first k, as a part of the whole
 pub left-part : (n k : ℕ) (xs : List ℕ) → n ≤ k → take (k - n) (drop n xs) ≡ drop n (take k xs)
 left-part n k xs h = sym (part_of_take (k - n) n k xs (omega arith)) ∙ take_all (k - n) (drop n (take k xs)) (omega (arith, length-drop n (take k xs), length-take k xs))
-
--- counters of at most 832 cards have room for all cards of a table
-pub room-left : (of xs : List ℕ) (n : ℕ) → of ≡ counted_all no_counts xs → length xs ≤ 832 → n ≤ 1156 → Room of n
-room-left of xs n e few h = rw e (room_after no_counts xs 65535 n (room-zeros 65535 (omega arith)) (omega arith))
-
-pub room-kept : (of : List ℕ) (decks : ℕ) (cards : List ℕ) (drawn discarded n : ℕ) → Left of decks cards drawn discarded → n ≤ 1156 → Room of n
-room-kept of decks cards drawn discarded n kept most =
-    room-left of (left_and_first decks cards drawn discarded) n kept.counters
-    (omega (
-      arith,
-      length-append (drop drawn (take (52 * decks) cards)) (take discarded cards),
-      length-drop drawn (take (52 * decks) cards),
-      length-take (52 * decks) cards,
-      length-take discarded cards,
-      kept.within.order,
-      kept.within.drawn,
-      kept.within.discarded,
-    ))
-    most
 
 -- a list taken apart and put together the other way round
 count_swapped : (b n : ℕ) (xs : List ℕ) → count_of b (drop n xs ++ take n xs) ≡ count_of b xs
@@ -74,14 +54,14 @@ count-rest b d n k xs few within =
 pub count-first : (b : ℕ) (left first on discards : List ℕ) → discards ≡ first → count_of b (left ++ first) + count_of b on ≡ count_of b left + count_of b (on ++ discards)
 count-first b left first on discards e = omega (arith, sum-append (is_it b) left first, sum-append (is_it b) on discards, ap (count_of b) e)
 
-module _ (decks n : ℕ) (order kept left : List ℕ) (full : length order ≡ 52 * decks) (counters : left ≡ counted_all no_counts kept) where
+module _ (decks n : ℕ) (order kept left : List ℕ) (full : length order ≡ 52 * decks) (few : 52 * decks ≤ 416) (counters : left ≡ counted_all no_counts kept) where
   beside : (cards of : List ℕ) → of ≡ counted_all left cards → of ≡ counted_all no_counts (kept ++ cards)
   beside cards of e = e ∙ ap (λ (l : List ℕ). counted_all l cards) counters ∙ sym (counted-append no_counts kept cards)
 
   -- the other drawn cards beside those that are kept
   pub drawn-decide : (rest of : List ℕ) → ((b : ℕ) → count_of b kept + count_of b rest ≡ count_of b order) → of ≡ counted_all left rest
       → all_below (λ face. eqb (get_or of face 0) decks) 52 ≡ valid_order decks order
-  drawn-decide rest of same e = faces-decide decks order (kept ++ rest) of full (beside rest of e) (λ b. sum-append (is_it b) kept rest ∙ same b)
+  drawn-decide rest of same e = faces-decide decks order (kept ++ rest) of full (omega (arith, few)) (beside rest of e) (λ b. sum-append (is_it b) kept rest ∙ same b)
 
   -- as many cards that are out beside those that are left
   module _ (valid : valid_order decks order ≡ true) (out : List ℕ) (many : length out ≡ n) (within : n ≤ 52 * decks) where
@@ -112,5 +92,5 @@ module _ (decks n : ℕ) (order kept left : List ℕ) (full : length order ≡ 5
     pub out_decide : (on of : List ℕ) → ((b : ℕ) → count_of b kept + count_of b on ≡ count_of b (drop n order) + count_of b out) → of ≡ counted_all left on
         → all_below (λ face. eqb (get_or of face 0) decks) 52 ≡ all_below (λ b. eqb (count_of b out) (count_of b (take n order))) 256
     out_decide on of same e =
-        faces-decide decks (drop n order ++ out) (kept ++ on) of again (beside on of e) (λ b. sum-append (is_it b) kept on ∙ same b ∙ sym (sum-append (is_it b) (drop n order) out))
+        faces-decide decks (drop n order ++ out) (kept ++ on) of again (omega (arith, few)) (beside on of e) (λ b. sum-append (is_it b) kept on ∙ same b ∙ sym (sum-append (is_it b) (drop n order) out))
         ∙ both_ways (valid_order decks (drop n order ++ out)) (all_below (λ b. eqb (count_of b out) (count_of b (take n order))) 256) to from

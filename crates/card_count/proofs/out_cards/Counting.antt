@@ -1,4 +1,4 @@
--- Laws of counted cards: what is counted next, and the room that is left.
+-- Laws of counted cards: what is counted next.
 use mathlib.Core.Path.{◌≡◌, refl, sym, ap, ◌∙◌}
 use mathlib.Core.List.{List, ◌++◌}
 use Prim.Native.Nat.{ℕ, ◌+◌, ◌*◌, ◌≤◌, ◌<◌}
@@ -7,13 +7,9 @@ use native.Mathlib.Omega.{arith}
 use lib.ListN.{length, get_or, take, length-append}
 use Rattle.lists.specs.Flat.{flat}
 use Rattle.lists.proofs.Flats.{flat-next}
-use Rattle.card_count.specs.Aids.Counters.{counted_all, Room}
-use Rattle.card_count.proofs.counters.Counts.{counted-append, room_after}
+use Rattle.card_count.specs.Aids.Counters.{counted_all}
+use Rattle.card_count.proofs.counters.Counts.{counted-append}
 use Rattle.card_count.specs.Aids.Counted.{Counted}
-
--- what counted cards leave of the room
-pub counted-room : {a b xs : List ℕ} {k most : ℕ} (n m : ℕ) → Room a n → Counted a b xs k most → most + m ≤ n → Room b m
-counted-room {a} {b} {xs} n m room e h = rw e.counters (room_after a xs n m room (omega arith))
 
 -- cards behind cards
 pub counted_join : {a b c xs ys : List ℕ} {n m k l : ℕ} → Counted a b xs n m → Counted b c ys k l → Counted a c (xs ++ ys) (n + k) (m + l)

@@ -2,7 +2,7 @@
 use mathlib.Core.Path.{◌≡◌, sym, ◌∙◌}
 use mathlib.Core.Bool.{true, false, cond}
 use mathlib.Core.List.{List, [], ◌∷◌}
-use Prim.Native.Nat.{ℕ, ◌*◌, ◌≤◌, ◌<◌}
+use Prim.Native.Nat.{ℕ, ◌*◌, ◌^◌, ◌≤◌, ◌<◌}
 use native.Mathlib.Decide.{dec_le}
 use native.Mathlib.Omega.{arith}
 use borrow.Author.Tests.{eqb-true, ltb-true, eq-eqb, ne_eqb, lt-ltb, le-ltb}
@@ -16,7 +16,7 @@ use Rattle.lists.proofs.Tests.{and_given, and_at, all-at}
 use Rattle.lists.proofs.Below.{all_below_lem, all_below-same}
 use Rattle.lists.proofs.Counts.{sum_below-each, counts_all}
 use Rattle.card_count.specs.Aids.Counters.{no_counts, counted_all}
-use Rattle.card_count.proofs.counters.Counts.{counted_zeros}
+use Rattle.card_count.proofs.counters.Counts.{count_most, counted_zeros}
 use Rattle.table.specs.Shoe.{valid_order}
 
 pub faces_valid : (decks : ℕ) (order : List ℕ) → length order ≡ 52 * decks → valid_order decks order ≡ all_below (λ face. eqb (count_of face order) decks) 52
@@ -29,12 +29,12 @@ faces_valid decks order h = rw (eq-eqb (length order) (52 * decks) h) (and_given
         (sum_below-each (λ face. count_of face order) 52 decks
         (λ face l. eqb-true (count_of face order) decks (all_below_lem (λ k. eqb (count_of k order) decks) 52 face each l)) ∙ sym h)
 
--- so the counters of as many cards of each face decide it
-pub faces-decide : (decks : ℕ) (order cards of : List ℕ) → length order ≡ 52 * decks → of ≡ counted_all no_counts cards → ((b : ℕ) → count_of b cards ≡ count_of b order)
+-- so the counters of as many cards of each face decide it, where they do not wrap
+pub faces-decide : (decks : ℕ) (order cards of : List ℕ) → length order ≡ 52 * decks → 52 * decks < 2 ^ 16 → of ≡ counted_all no_counts cards → ((b : ℕ) → count_of b cards ≡ count_of b order)
     → all_below (λ face. eqb (get_or of face 0) decks) 52 ≡ valid_order decks order
-faces-decide decks order cards of h e same =
+faces-decide decks order cards of h few e same =
     all_below-same (λ face. eqb (get_or of face 0) decks) (λ face. eqb (count_of face order) decks) 52
-    (λ face l. rw (e, counted_zeros cards face (omega arith), same face))
+    (λ face l. rw (e, counted_zeros cards face (omega arith) (omega (arith, h, few, same face, count_most face order)), same face))
     ∙ sym (faces_valid decks order h)
 
 -- a valid order has its faces, and nothing else

@@ -12,7 +12,6 @@ use Rattle.table.proofs.Facts.{unbroken, decks_416}
 use Rattle.faces_left.specs.FacesLeft.{unseen, counts_below}
 use Rattle.faces_left.proofs.Parts.{part}
 use Rattle.faces_left.proofs.Unseen.{few_left}
-use borrow.Author.Rules.{rules}
 use Rattle.faces_left.proofs.unseen_counts.Goals.{After-table-t}
 use Rattle.faces_left.proofs.unseen_counts.Goals as goal
 
@@ -34,11 +33,10 @@ pub counted-requires : goal.counted-requires
 counted-requires c =
     let t = c.table-t.result.now in
     let sound = whole (goal.at.counted-requires c).After-table-t in
-    let twenty : length t.bank.cards ≡ 20 = search rules in
     let left : take (52 * t.options.decks - t.shoe.drawn) (drop t.shoe.drawn t.shoe.order) ≡ table_shoe t = part t.shoe.drawn (52 * t.options.decks) t.shoe.order (unbroken t sound).drawn in
     let hidden : take (length (bank_cards t) - 1) (drop 1 (bank_cards t)) ≡ drop 1 (bank_cards t) = take_all (length (bank_cards t) - 1) (drop 1 (bank_cards t)) (omega (arith, length-drop 1 (bank_cards t))) in
     let dealt : is_dealt t ≡ true = subst (λ (u : Table). is_dealt u ≡ true) (sym c.table-t.ensures.same) c.requires in
-    rw (c.held_cards.ensures, left, hidden) (few_left t twenty sound dealt)
+    rw (c.held_cards.ensures, left, hidden) (few_left t sound dealt)
 
 pub returns : goal.returns
 returns c =

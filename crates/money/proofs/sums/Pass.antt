@@ -10,7 +10,6 @@ use native.Mathlib.Omega.{arith}
 use lib.ListN.{length, take, get_or}
 use Rattle.lists.proofs.Sums.{sum-take}
 use Rattle.options.specs.declared.Options.{Options}
-use Rattle.table.specs.declared.Money.{Money}
 use Rattle.table.specs.declared.Seat.{Seat}
 use Rattle.table.specs.Guest.{is_nobody, nobody_in}
 use Rattle.table.specs.Seat.{missing_seat, guest_at, over_guests, stake, insurance, sides, purse, laid, prizes, seat_cover}
@@ -79,11 +78,10 @@ nothing_summed o s none bets =
 pub none_more : (a : Sums) → plus_sums a no_sums ≡ a
 none_more a = rw (add-zero a.stakes, add-zero a.laid, add-zero a.prizes, add-zero a.cover, add-zero a.purses)
 
-pub passed_over : (o : Options) (a : Sums) (s : Seat) (m : Money) → m ≡ s.money
-    → is_nobody m ≡ true
+pub passed_over : (o : Options) (a : Sums) (s : Seat) → is_nobody s.money ≡ true
     → (a ≡ plus_sums a (guest_sums o s)) × SumsFit 1 (guest_sums o s)
-passed_over o a s m same empty =
-    let (none, bets) = nothing_facts s (rw same at empty) in
+passed_over o a s empty =
+    let (none, bets) = nothing_facts s empty in
     let nothing = nothing_summed o s none bets in
     (sym (ap (plus_sums a) nothing ∙ none_more a), rw nothing (fits_in_lem 0 1 no_sums (omega arith) no_guests_fit))
 
@@ -117,4 +115,4 @@ pub seated-added : (o : Options) (s : Seat) (all one : Sums)
     → (one ≡ plus_sums all (seat_sums o s)) × SumsFit 3 (seat_sums o s)
 seated-added o s all one nobody seated =
     let (first, second) = nobody_beside s nobody in
-    seat-added o s all one one one seated (passed_over o one (guest_at s 1) (guest_at s 1).money refl first) (passed_over o one (guest_at s 2) (guest_at s 2).money refl second)
+    seat-added o s all one one one seated (passed_over o one (guest_at s 1) first) (passed_over o one (guest_at s 2) second)

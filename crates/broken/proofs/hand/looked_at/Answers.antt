@@ -32,16 +32,16 @@ at_place s items i e h = rw e (get_or-take s.many s.places i none (omega (arith,
 
 pub overflow_add-wagers : goal.overflow_add-wagers
 overflow_add-wagers c =
-    let s = c.args.s in
-    let full : length s.places ≡ 4 = search rules in
+    let s = c.args.s.now in
+    let full : length s.places ≡ 4 = c.hands_shape.ensures in
     let few = length-take s.many s.places in
     let items = ap length c.in_use-h-items.ensures in
     omega (arith, few, items, c.wager-wagers.ensures, (wager_bounds c.args.stake (played_of (get_or c.in_use-h-items.result.now c.loop-h.h-index none))).1)
 
 pub overflow_add-prizes : goal.overflow_add-prizes
 overflow_add-prizes c =
-    let s = c.args.s in
-    let full : length s.places ≡ 4 = search rules in
+    let s = c.args.s.now in
+    let full : length s.places ≡ 4 = c.hands_shape.ensures in
     let few = length-take s.many s.places in
     let items = ap length c.in_use-h-items.ensures in
     omega (arith, few, items, c.prize-prizes.ensures, prize_most c.args.o c.args.stake (played_of (get_or c.in_use-h-items.result.now c.loop-h.h-index none)))
@@ -49,10 +49,10 @@ overflow_add-prizes c =
 pub loop-h-preserved : goal.loop-h-preserved
 loop-h-preserved c =
     let a = c.args in
-    let s = a.s in
+    let s = a.s.now in
     let i = c.loop-h.h-index in
     let items = c.in_use-h-items.ensures in
-    let full : length s.places ≡ 4 = search rules in
+    let full : length s.places ≡ 4 = c.hands_shape.ensures in
     let here = at_place s c.in_use-h-items.result.now i items c.loop-h-test.true in
     let h = played_of (get_or s.places i none) in
     let within : i < length (take s.many s.places) = omega (arith, ap length items) in

@@ -1,35 +1,18 @@
 -- The part of the array behind the drawn cards, up to the end of the order, is what is left; the first part is counted behind it.
 use mathlib.Core.Path.{◌≡◌, sym, ap, ◌∙◌}
 use mathlib.Core.List.{List}
-use Prim.Native.Nat.{ℕ, ◌-◌, ◌*◌, ◌≤◌}
+use Prim.Native.Nat.{ℕ, ◌*◌}
 use native.Mathlib.Omega.{arith}
-use lib.ListN.{length, take, drop, length-take}
+use lib.ListN.{take, drop}
 use lib.Seq.{length-take-le}
 use Rattle.card_count.specs.Aids.Counters.{counted_all, no_counts}
-use Rattle.card_count.proofs.counters.Counts.{counted-append, room-zeros}
-use Rattle.card_count.proofs.conserved.Beside.{left-part, room-left}
+use Rattle.card_count.proofs.counters.Counts.{counted-append}
+use Rattle.card_count.proofs.conserved.Beside.{left-part}
 use Rattle.card_count.proofs.conserved.count_left.Goals as goal
 
 -- the counters begin with zero
 from_none : {of after : List ℕ} (cards : List ℕ) → of ≡ no_counts → after ≡ counted_all of cards → after ≡ counted_all no_counts cards
 from_none cards none e = e ∙ ap (λ (l : List ℕ). counted_all l cards) none
-
-pub count-requires : goal.count-requires
-count-requires c =
-    let cards = c.args.sh.now.order in
-    let n = 52 * c.args.decks - c.args.sh.now.drawn in
-    let few : length (take n (drop c.args.sh.now.drawn cards)) ≤ 65535
-    = omega (arith, length-take n (drop c.args.sh.now.drawn cards), c.requires.fits.order) in
-    rw c.requires.none (room-zeros _ few)
-
-pub count-requires-2 : goal.count-requires-2
-count-requires-2 c =
-    let a = c.args in
-    let cards = a.sh.now.order in
-    let n = 52 * a.decks - a.sh.now.drawn in
-    let few : length (take n (drop a.sh.now.drawn cards)) ≤ 832 = omega (arith, length-take n (drop a.sh.now.drawn cards), c.requires.fits.order) in
-    let most : length (take a.sh.now.discarded cards) ≤ 1156 = omega (arith, length-take a.sh.now.discarded cards, c.requires.fits.order, c.requires.fits.drawn, c.requires.fits.discarded) in
-    room-left _ (take n (drop a.sh.now.drawn cards)) _ (from_none _ c.requires.none c.count.ensures) few most
 
 pub returns : goal.returns
 returns c =

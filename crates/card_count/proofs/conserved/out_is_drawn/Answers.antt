@@ -13,8 +13,8 @@ use Rattle.table.specs.Faces.{out_cards}
 use Rattle.table.specs.Broken.{sound_faces}
 use Rattle.card_count.specs.Aids.Counted.{Counted}
 use Rattle.card_count.specs.Aids.Left.{left_and_first, OfValid, WithHands}
-use Rattle.card_count.proofs.out_cards.Counting.{counted-room, counted_join}
-use Rattle.card_count.proofs.conserved.Beside.{room-kept, count-first, out_decide}
+use Rattle.card_count.proofs.out_cards.Counting.{counted_join}
+use Rattle.card_count.proofs.conserved.Beside.{count-first, out_decide}
 use Rattle.card_count.proofs.conserved.out_is_drawn.Goals as goal
 
 -- the cards that are out are those in play and the discards
@@ -36,12 +36,6 @@ in_play : {of after : List ℕ} {hands many : ℕ} (t : Table) (ok : WithHands o
     → Counted ok.before after (hand_cards t ++ bank_cards t) (hands + many) 740
 in_play t ok bank = counted_join ok.counted bank
 
-pub count_hand-requires : goal.count_hand-requires
-count_hand-requires c =
-    let t = c.args.t.now in
-    let ok = c.requires in
-    counted-room 740 20 (room-kept ok.before t.options.decks t.shoe.order t.shoe.drawn t.shoe.discarded 740 ok.valid.left (omega arith)) ok.counted (omega arith)
-
 pub returns-then-many-t : goal.returns-then-many-t
 unfolding sound_faces
 returns-then-many-t c =
@@ -59,7 +53,7 @@ returns c =
     let many : length (out_cards t) ≡ t.shoe.drawn = omega (arith, out_many t ok, play.number) in
     rw (eq-eqb (length (out_cards t)) t.shoe.drawn many, and-true)
     (c.each_face.ensures
-    ∙ out_decide decks t.shoe.drawn (order_of decks t.shoe) (left_and_first decks t.shoe.order t.shoe.drawn t.shoe.discarded) c.requires.before kept.whole kept.counters ok.valid (out_cards t) many kept.within.drawn
+    ∙ out_decide decks t.shoe.drawn (order_of decks t.shoe) (left_and_first decks t.shoe.order t.shoe.drawn t.shoe.discarded) c.requires.before kept.whole kept.within.order kept.counters ok.valid (out_cards t) many kept.within.drawn
     (hand_cards t ++ bank_cards t) _
     (λ b. count-first b (left_of decks t.shoe) (take t.shoe.discarded t.shoe.order) (hand_cards t ++ bank_cards t) (table_discards t) ok.discards)
     play.counters)

@@ -9,20 +9,12 @@ use Rattle.lists.proofs.Flats.{flat_map}
 use Rattle.cards.specs.Hand.{cards_of}
 use Rattle.rules.specs.SeatHand.{Played, played_of}
 use Rattle.table.specs.Seat.{missing_place}
-use Rattle.card_count.proofs.out_cards.Counting.{counted_none, counted_next, counted-room, counted_is}
+use Rattle.card_count.proofs.out_cards.Counting.{counted_none, counted_next, counted_is}
 use borrow.Author.Rules.{rules}
 use Rattle.card_count.proofs.out_cards.count_seat.Goals as goal
 
 pub loop-h-init : goal.loop-h-init
 loop-h-init c = counted_none (λ h. cards_of h.hand) (take c.args.s.many c.args.s.places) 20 _
-
-pub count_hand-many-requires : goal.count_hand-many-requires
-count_hand-many-requires c =
-    let s = c.args.s in
-    let full : length s.places ≡ 4 = search rules in
-    let few : length (take s.many s.places) ≤ 4 = omega (arith, length-take s.many s.places) in
-    let items = ap length c.in_use-h-items.ensures in
-    counted-room 80 20 c.requires c.loop-h.invariant (omega (arith, items))
 
 pub loop-h-preserved : goal.loop-h-preserved
 loop-h-preserved c =

@@ -11,7 +11,7 @@ use Rattle.rules.specs.SeatHand.{played_of}
 use Rattle.table.specs.Seat.{missing_seat, seat_cards}
 use Rattle.card_count.specs.Aids.Counters.{counted_all}
 use Rattle.card_count.specs.Aids.Counted.{Counted}
-use Rattle.card_count.proofs.out_cards.Counting.{counted_none, counted_next, counted-room, counted-at}
+use Rattle.card_count.proofs.out_cards.Counting.{counted_none, counted_next, counted-at}
 use borrow.Author.Rules.{rules}
 use Rattle.card_count.proofs.out_cards.count_seats.Goals as goal
 use Rattle.card_count.proofs.out_cards.count_seats.Goals.{then-s-ne0, else-s-ne0}
@@ -23,11 +23,6 @@ no_hand of n places none = rw none (record { counters = refl; number = refl; few
 
 pub loop-s-init : goal.loop-s-init
 loop-s-init c = counted_none seat_cards c.args.t.seats 80 _
-
-pub count_seat-many-requires : goal.count_seat-many-requires
-count_seat-many-requires c =
-    let full : length c.args.t.seats ≡ 9 = search rules in
-    counted-room 720 80 c.requires c.loop-s.invariant (omega arith)
 
 pub loop-s-preserved : goal.loop-s-preserved
 loop-s-preserved c =

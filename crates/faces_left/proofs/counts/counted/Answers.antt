@@ -1,7 +1,7 @@
 -- `counted` counts the cards by byte and takes the counters of the 52 faces, one after the other.
 use mathlib.Core.Path.{◌≡◌, refl, sym, ◌∙◌, ap}
 use mathlib.Core.List.{List, ◌++◌}
-use Prim.Native.Nat.{ℕ, ◌+◌, ◌<◌}
+use Prim.Native.Nat.{ℕ, ◌<◌}
 use native.Mathlib.Omega.{arith}
 use lib.ListN.{length, take, get_or, length-set, length-take}
 use lib.Seq.{take_all, get_or-take, length-take-le}
@@ -9,7 +9,6 @@ use borrow.Author.Rules.{rules}
 use Rattle.lists.specs.Sum.{is_it, count_of}
 use Rattle.lists.proofs.Sums.{sum-append}
 use Rattle.card_count.specs.Aids.Counters.{no_counts, counted_all}
-use Rattle.card_count.proofs.counters.Counts.{room-zeros, room_after}
 use Rattle.faces_left.specs.FacesLeft.{counts_below}
 use Rattle.faces_left.proofs.Parts.{face_stored, both-counted}
 use Rattle.faces_left.proofs.counts.counted.Goals.{After-count-2}
@@ -28,19 +27,7 @@ counters c face h =
     let first = c.args.first.now in
     let second = c.args.second.now in
     get_or-take 52 c.count-2.new.of face 0 h ∙ both-counted first second c.count-2.new.of face (c.count-2.ensures ∙ ap (λ (of : List ℕ). counted_all of second) c.count.ensures) (omega arith)
-
-pub count-requires : goal.count-requires
-unfolding no_counts
-count-requires c =
-    let few = c.requires in
-    room-zeros (length c.args.first.now) (omega (arith, few.all))
-
-pub count-requires-2 : goal.count-requires-2
-unfolding no_counts
-count-requires-2 c =
-    let first = c.args.first.now in
-    let second = c.args.second.now in
-    rw c.count.ensures (room_after no_counts first (length first + length second) (length second) (room-zeros (length first + length second) (omega (arith, c.requires.all))) (omega arith))
+    (omega (arith, c.requires.each face h, sum-append (is_it face) first second))
 
 pub slice_bounds-count-items-end : goal.slice_bounds-count-items-end
 slice_bounds-count-items-end c =
