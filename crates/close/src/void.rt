@@ -19,7 +19,7 @@ fn voided(t: Table) -> Table
     requires { Sound t }
     ensures { result ≡ void_effect t }
 {
-    let mut next = ended_seats(t, Ending::Void);
+    let mut next = ended_seats(t, Ending::Void(t.options));
     let sums = table_sums(t);
     next.tray = t.tray + sums.prizes;
     next.bank = empty_hand();

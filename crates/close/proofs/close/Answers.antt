@@ -15,7 +15,7 @@ use Rattle.close.proofs.close.Goals as goal
 
 -- the bank's cards are those of the table
 cards : (c : After-must_draw) → cards_of c.bank_at_close-bank.result ≡ bank_at_close c.args.t.now
-cards c = c.bank_at_close-bank.ensures ∙ ap bank_at_close c.table-t.ensures.same
+cards c = c.bank_at_close-bank.ensures ∙ ap bank_at_close c.table.ensures.same
 
 pub returns-in_err-check_early : goal.returns-in_err-check_early
 returns-in_err-check_early c =
@@ -26,8 +26,8 @@ returns-in_err-check_early c =
 
 pub bank_at_close-bank-requires : goal.bank_at_close-bank-requires
 bank_at_close-bank-requires c =
-    let sound = unbroken c.args.t.now c.table-t.ensures.whole in
-    rw c.table-t.ensures.same (sound.drawn, decks_416 c.args.t.now sound)
+    let sound = unbroken c.args.t.now c.table.ensures.whole in
+    rw c.table.ensures.same (sound.drawn, decks_416 c.args.t.now sound)
 
 pub returns-then-must_draw : goal.returns-then-must_draw
 returns-then-must_draw c =
@@ -36,13 +36,12 @@ returns-then-must_draw c =
     (last_refused t 0 c.in_ok-check_early.ensures refl _ (cards (goal.at.returns-then-must_draw c).After-must_draw) _ c.must_draw.ensures c.if-must_draw.true)
     (λ none. absurd (omega arith))
 
-pub settle-requires : goal.settle-requires
-settle-requires c =
-    rw c.table-t.ensures.same
-    (closes c.args.t.now 0 c.in_ok-check_early.ensures refl _ (cards (goal.at.settle-requires c).After-must_draw) _ c.must_draw.ensures c.if-must_draw.false)
+pub new-requires : goal.new-requires
+new-requires c =
+    closes c.args.t.now 0 c.in_ok-check_early.ensures refl _ (cards (goal.at.new-requires c).After-must_draw) _ c.must_draw.ensures c.if-must_draw.false
 
 pub returns : goal.returns
 returns c =
     let t = c.args.t.now in
-    accepted-step c.args.names.now c.args.nets.now (close_conditions t) (close_effect t) t (close_shown t) _ (rw c.table-t.ensures.same at c.settle.ensures)
+    accepted-step c.args.names.now c.args.nets.now (close_conditions t) (close_effect t) t (close_shown t) _ (rw c.new.ensures at c.settle.ensures)
     (all_accepted t 0 c.in_ok-check_early.ensures refl _ (cards (goal.at.returns c).After-must_draw) _ c.must_draw.ensures c.if-must_draw.false)

@@ -17,7 +17,6 @@ use Rattle.payment.specs.Insurance.{insurance_pay}
 use Rattle.payment.specs.SidePay.{side_odds, side_pay}
 use Rattle.payment.proofs.side_pay.Laws.{odds_most}
 use Rattle.payment.proofs.cover.Bounds.{gain_most}
-use Rattle.table.specs.declared.Money.{Money}
 use Rattle.table.specs.declared.Seat.{Seat}
 use Rattle.table.specs.Guest.{is_nobody}
 use Rattle.table.proofs.Facts.{nothing_facts}
@@ -36,7 +35,5 @@ pub side-most : (k n : ℕ) (first : List ℕ) → (side_pay k n first).back ≤
 unfolding side_pay
 side-most k n first = cond_most (ltb 0 (side_odds k first)) (omega (arith, mul-le-mul_left n (odds_most k first))) (omega arith)
 
-pub passed_over : (o : Options) (bank : Score) (s : Seat) (m : Money) → m ≡ s.money
-    → is_nobody m ≡ true
-    → guest_back o bank s ≡ 0
-passed_over o bank s m same empty = nothing_back o bank s (nothing_facts s (rw same at empty)).1
+pub passed_over : (o : Options) (bank : Score) (s : Seat) → is_nobody s.money ≡ true → guest_back o bank s ≡ 0
+passed_over o bank s empty = nothing_back o bank s (nothing_facts s empty).1

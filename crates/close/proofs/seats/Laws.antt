@@ -9,8 +9,6 @@ use lib.ListN.{length, take, drop, set, length-map, get_or-map}
 use lib.Seq.{take_all, drop-length}
 use Rattle.lists.proofs.Sums.{sum_has}
 use Rattle.lists.proofs.Stores.{copy_next}
-use Rattle.options.specs.declared.Options.{Options}
-use Rattle.table.specs.declared.Money.{Money}
 use Rattle.table.specs.declared.Seat.{Seat}
 use Rattle.table.specs.declared.Table.{Table}
 use Rattle.table.specs.Guest.{is_nobody}
@@ -22,24 +20,22 @@ use Rattle.table.proofs.Facts.{nothing_facts, nothing-laid}
 use Rattle.close_spec.proofs.Back.{nothing_back}
 use Rattle.close.specs.declared.seats.Ending.{Ending}
 use Rattle.close.specs.declared.seats.Ending.TheVariants.{Void, Paid}
-use Rattle.close.specs.Aids.Ended.{Endable, ended_purse, ended_seat}
+use Rattle.close.specs.Aids.Ended.{options_of, Endable, ended_purse, ended_seat}
 
 -- its guests keep nothing but their purses
-pub ended_is : (o : Options) (ending : Ending) (s : Seat) → cleared_seat (λ p. ended_purse o ending (guest_at s p)) ≡ ended_seat o ending s
-ended_is o Void s = refl
-ended_is o (Paid bank) s = refl
+pub ended_is : (ending : Ending) (s : Seat) → cleared_seat (λ p. ended_purse ending (guest_at s p)) ≡ ended_seat ending s
+ended_is (Void o) s = refl
+ended_is (Paid p) s = refl
 
 -- and one who has nothing has nothing then
-pub passed_over : (o : Options) (ending : Ending) (s : Seat) (m : Money) → m ≡ s.money
-    → is_nobody m ≡ true
-    → ended_purse o ending s ≡ 0
-passed_over o Void s m same empty = let (none, bets) = nothing_facts s (rw same at empty) in omega (arith, none, nothing-laid s bets)
-passed_over o (Paid bank) s m same empty = let (none, bets) = nothing_facts s (rw same at empty) in omega (arith, none, nothing_back o bank s bets)
+pub passed_over : (ending : Ending) (s : Seat) → is_nobody s.money ≡ true → ended_purse ending s ≡ 0
+passed_over (Void o) s empty = let (none, bets) = nothing_facts s empty in omega (arith, none, nothing-laid s bets)
+passed_over (Paid p) s empty = let (none, bets) = nothing_facts s empty in omega (arith, none, nothing_back p.options p.bank s bets)
 
-pub endable : (t : Table) → Sound t → length t.seats ≡ 9 → (i : ℕ) → i < 9 → (p : ℕ) → p < 3 → Endable t.options (guest_of t i p)
-endable t sound nine i h p l =
+pub endable : (t : Table) (ending : Ending) → Sound t → options_of ending ≡ t.options → length t.seats ≡ 9 → (i : ℕ) → i < 9 → (p : ℕ) → p < 3 → Endable ending (guest_of t i p)
+endable t ending sound same nine i h p l =
     record {
-      within = ((sound.seats i h).guests p l).prizes_back;
+      within = rw same ((sound.seats i h).guests p l).prizes_back;
       limit =
           omega (
             arith,

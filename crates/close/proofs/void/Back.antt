@@ -39,7 +39,7 @@ module _ (t : Table) (sound : Sound t) where
 
 -- the effect, part by part
 pub void_is : (t u : Table) (won : ℕ) (bank : Hand) (shoe : Shoe)
-    → u ≡ with_seats t (map (ended_seat t.options Void) t.seats)
+    → u ≡ with_seats t (map (ended_seat (Void t.options)) t.seats)
     → won ≡ all_prizes t
     → bank ≡ empty_hand
     → shoe ≡ discard_drawn t.shoe

@@ -10,19 +10,24 @@ use Rattle.close.specs.declared.seats.Ending.{Ending}
 use Rattle.close.specs.declared.seats.Ending.TheVariants.{Void, Paid}
 
 -- A guest's purse then.
-abbrev pub ended_purse : Options → Ending → Seat → ℕ
-ended_purse o Void s = void_purse o s
-ended_purse o (Paid bank) s = paid_purse o bank s
+abbrev pub ended_purse : Ending → Seat → ℕ
+ended_purse (Void o) s = void_purse o s
+ended_purse (Paid p) s = paid_purse p.options p.bank s
 
-abbrev pub ended_seat : Options → Ending → Seat → Seat
-ended_seat o Void s = void_seat o s
-ended_seat o (Paid bank) s = paid_seat o bank s
+abbrev pub ended_seat : Ending → Seat → Seat
+ended_seat (Void o) s = void_seat o s
+ended_seat (Paid p) s = paid_seat p.options p.bank s
+
+-- The options of the table where a round so ends.
+abbrev pub options_of : Ending → Options
+options_of (Void o) = o
+options_of (Paid p) = p.options
 
 -- What the guest laid fits into the purse, and the prizes can be taken out again.
-pub record Endable (o : Options) (s : Seat) : Type 0 where
-  pub within : prizes o s ≤ purse s + laid s
+pub record Endable (ending : Ending) (s : Seat) : Type 0 where
+  pub within : prizes (options_of ending) s ≤ purse s + laid s
   pub limit : purse s + laid s ≤ most_money
 
 -- So of each guest of a seat.
-abbrev pub AllEndable : Options → Seat → Type 0
-AllEndable o s = (p : ℕ) → p < 3 → Endable o (guest_at s p)
+abbrev pub AllEndable : Ending → Seat → Type 0
+AllEndable ending s = (p : ℕ) → p < 3 → Endable ending (guest_at s p)

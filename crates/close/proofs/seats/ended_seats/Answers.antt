@@ -9,13 +9,13 @@ use borrow.Author.Rules.{rules}
 use Rattle.close.proofs.seats.ended_seats.Goals as goal
 
 pub loop-i-init : goal.loop-i-init
-loop-i-init c = stored_none (ended_seat c.args.t.options c.args.ending) c.args.t
+loop-i-init c = stored_none (ended_seat c.args.ending) c.args.t
 
-pub ended_seat-requires : goal.ended_seat-requires
-ended_seat-requires c =
+pub seat-requires : goal.seat-requires
+seat-requires c =
     let t = c.args.t in
     let full : length t.seats ≡ 9 = search rules in
-    endable t c.requires full c.loop-i.i (omega arith)
+    endable t c.args.ending c.requires.0 c.requires.1 full c.loop-i.i (omega arith)
 
 pub offset_bounds-next-i : goal.offset_bounds-next-i
 offset_bounds-next-i c = omega arith
@@ -25,10 +25,10 @@ loop-i-preserved c =
     let t = c.args.t in
     let i = c.loop-i.i in
     let full : length t.seats ≡ 9 = search rules in
-    ap (with_seat c.loop-i.next i) c.ended_seat.ensures ∙ stored_next (ended_seat t.options c.args.ending) t c.loop-i.next i (omega arith) c.loop-i.invariant
+    ap (with_seat c.loop-i.next i) c.seat.ensures ∙ stored_next (ended_seat c.args.ending) t c.loop-i.next i (omega arith) c.loop-i.invariant
 
 pub returns : goal.returns
 returns c =
     let t = c.args.t in
     let full : length t.seats ≡ 9 = search rules in
-    c.loop-i.invariant ∙ stored_all (ended_seat t.options c.args.ending) t c.loop-i.i (omega arith)
+    c.loop-i.invariant ∙ stored_all (ended_seat c.args.ending) t c.loop-i.i (omega arith)

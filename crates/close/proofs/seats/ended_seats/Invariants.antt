@@ -6,4 +6,4 @@ use Rattle.close.proofs.seats.Laws.{stored_seats}
 use Rattle.close.proofs.seats.ended_seats.Given as goal
 
 abbrev pub invariant-loop-i : goal.invariant-loop-i
-invariant-loop-i l = l.next ≡ with_seats l.fn.t (stored_seats (ended_seat l.fn.t.options l.fn.ending) l.fn.t l.i)
+invariant-loop-i l = l.next ≡ with_seats l.fn.t (stored_seats (ended_seat l.fn.ending) l.fn.t l.i)

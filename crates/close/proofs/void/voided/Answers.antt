@@ -1,5 +1,5 @@
 -- Each part of the effect is its function's. The tray with the prizes is within the limit.
-use mathlib.Core.Path.{◌≡◌, ap}
+use mathlib.Core.Path.{◌≡◌, refl, ap}
 use native.Mathlib.Omega.{arith}
 use lib.ListN.{length}
 use Rattle.table.specs.Money.{all_prizes}
@@ -9,7 +9,7 @@ use borrow.Author.Rules.{rules}
 use Rattle.close.proofs.void.voided.Goals as goal
 
 pub ended_seats-next-requires : goal.ended_seats-next-requires
-ended_seats-next-requires c = c.requires
+ended_seats-next-requires c = (c.requires, refl)
 
 pub overflow_add-next : goal.overflow_add-next
 overflow_add-next c =
