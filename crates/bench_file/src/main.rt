@@ -5,29 +5,20 @@
 mod replays;
 mod writing;
 
-ghost use Rattle.std.specs.Prelude.{◌≤◌};
-
 use crate::replays::{Replay, replayed};
-use crate::writing::{ROOM, written_session};
-use session_file::reader::part;
+use crate::writing::written_session;
 use std::io;
 use workload::calls_asked;
 use workload::checksum::of_table;
 
-// The file is the first of these bytes.
-fn passes(bytes: &[u8; ROOM], end: usize, begun: Replay) -> Replay
-    ensures { result.left ≤ begun.left }
-{
-    replayed(part(bytes, 0, end), begun)
-}
-
 fn main(rt: HostRuntime) -> io::Result<()> {
     let calls = calls_asked(&rt);
-    let mut bytes = [0; ROOM];
-    let s = written_session(&mut bytes);
-    let table = s.table;
-    let begun = Replay { table, left: calls };
-    let last = passes(&bytes, s.end, begun);
+    let session = written_session(rt.alloc())?;
+    let begun = Replay {
+        table: session.table,
+        left: calls,
+    };
+    let last = replayed(&session.file, begun);
     let replayed = calls - last.left;
     let sum = of_table(last.table);
     println!(rt; "{replayed} calls replayed, checksum {sum}")

@@ -11,7 +11,7 @@ use stage::program::answer_script;
 use std::io;
 
 fn main(rt: HostRuntime) -> io::Result<()> {
-    answer_script(&rt, rt.stdin(), io::writer(&rt), |out, text| {
-        rows::each(out, text)
+    answer_script(&rt, rt.stdin(), io::writer(&rt), (), |out, _, row| {
+        rows::question(out, row)
     })
 }

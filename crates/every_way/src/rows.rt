@@ -8,7 +8,7 @@ use std::io;
 use std::io::Write;
 
 // What the row asks of the stage; where a call is refused its number is written.
-fn take<W: Write>(out: &mut W, stage: &mut Stage, row: Row<'_>) -> io::Result<()> {
+pub(crate) fn take<W: Write>(out: &mut W, stage: &mut Stage, row: Row<'_>) -> io::Result<()> {
     match row.letter() {
         b'#' => {}
         b'=' => heading(out, row.words)?,
@@ -25,15 +25,6 @@ fn take<W: Write>(out: &mut W, stage: &mut Stage, row: Row<'_>) -> io::Result<()
             let answer = stage.play(call_of(letter, row.at(), row.amount()));
             refused(out, "  call refused", answer.number)?;
         }
-    }
-    Ok(())
-}
-
-// Each line long enough to be a row.
-pub(crate) fn each<W: Write>(out: &mut W, text: &[u8]) -> io::Result<()> {
-    let mut stage = Stage::new();
-    for row in text.split(|letter| *letter == b'\n').filter_map(Row::read) {
-        take(out, &mut stage, row)?;
     }
     Ok(())
 }

@@ -6,11 +6,10 @@ mod lines;
 mod room;
 mod rows;
 
+use crate::room::Room;
 use stage::program::answer_script;
 use std::io;
 
 fn main(rt: HostRuntime) -> io::Result<()> {
-    answer_script(&rt, rt.stdin(), io::writer(&rt), |out, text| {
-        rows::each(out, text)
-    })
+    answer_script(&rt, rt.stdin(), io::writer(&rt), Room::new(), rows::take)
 }

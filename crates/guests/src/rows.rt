@@ -15,7 +15,7 @@ fn play<W: Write>(out: &mut W, room: &mut Room, row: Row<'_>) -> io::Result<()> 
 }
 
 // What the row asks of the room.
-fn take<W: Write>(out: &mut W, room: &mut Room, row: Row<'_>) -> io::Result<()> {
+pub(crate) fn take<W: Write>(out: &mut W, room: &mut Room, row: Row<'_>) -> io::Result<()> {
     match row.letter() {
         b'#' => {}
         b'=' => heading(out, row.words)?,
@@ -29,15 +29,6 @@ fn take<W: Write>(out: &mut W, room: &mut Room, row: Row<'_>) -> io::Result<()> 
             lines::called(out, "open", number, words)?;
         }
         _ => play(out, room, row)?,
-    }
-    Ok(())
-}
-
-// Each line long enough to be a row.
-pub(crate) fn each<W: Write>(out: &mut W, text: &[u8]) -> io::Result<()> {
-    let mut room = Room::new();
-    for row in text.split(|letter| *letter == b'\n').filter_map(Row::read) {
-        take(out, &mut room, row)?;
     }
     Ok(())
 }

@@ -1,15 +1,13 @@
 // Writes the session file (request 2.9) of the marked session of document 01: each call is played, and the accepted ones are told to the writer.
 #![tactic(auto)]
 
-mod order;
-
-use crate::order::marked_order;
 use answer::reply::Reply;
-use call::{At, Call};
+use call::Call;
 use cashier::opening::{empty_table, opening};
 use file_block::block::Block;
 use file_writer::writer::Writer;
 use stage::house::marked;
+use stage::marked::{marked_calls, marked_order};
 use stage::pay_lines::PayLines;
 use std::io;
 use std::io::{BufWriter, Write};
@@ -48,7 +46,7 @@ fn told<W: Write>(out: &mut W, s: &mut Session, c: Call, order: &[u8]) -> io::Re
 fn main(rt: HostRuntime) -> io::Result<()> {
     let mut out = BufWriter::new(rt.alloc(), io::writer(&rt))?;
     let cards = marked_order();
-    let order: &[u8] = &cards;
+    let order = cards.as_slice();
     let begun = match Writer::begin(marked(), order) {
         Ok(begun) => begun,
         Err(why) => return writeln!(out, "{why}"),
@@ -60,23 +58,7 @@ fn main(rt: HostRuntime) -> io::Result<()> {
         lines: PayLines::new(),
         writer: begun.0,
     };
-    let at = At {
-        seat: 2,
-        position: 0,
-    };
-    let calls = [
-        Call::Fill(1000),
-        Call::Buy(at, 100),
-        Call::Stake(at, 20),
-        Call::Deal,
-        Call::Insure(at, 10),
-        Call::Split(at),
-        Call::Double(at),
-        Call::Stand(at),
-        Call::Close,
-        Call::Stand(at),
-    ];
-    for call in calls {
+    for call in marked_calls() {
         told(&mut out, &mut s, call, order)?;
     }
     if let Some(last) = s.writer.end() {

@@ -9,23 +9,26 @@ use display::{shown_table, shown_turn};
 use rules::seat_hand::{BY_DOUBLE, BY_EVEN, BY_STAND, BY_SURRENDER, DEALT, NOT_ENDED, SPLIT};
 use stage::Stage;
 use stage::program::heading;
-use stage::shown::{Cards, Total};
+use stage::shown::{CallLine, Cards, Total};
 use std::io::Write;
 use std::{fmt, io};
 use table::Table;
 
-// Name and number of a call, tray, layout, all purses, cards left, and the words of the script.
-// The number is what is printed, here and below.
-fn figures<W: Write>(out: &mut W, name: &str, number: u8, t: Table, what: &[u8]) -> io::Result<()> {
-    let shown = shown_table(t);
-    write!(out, "{name} {number} {} {} ", shown.tray, shown.layout)?;
-    write!(out, "{} {} | ", shown.purses, shown.left)?;
+// The line of a call, with the words of the script.
+fn words_behind<W: Write>(out: &mut W, line: CallLine, what: &[u8]) -> io::Result<()> {
+    write!(out, "{line} | ")?;
     heading(out, what)
 }
 
 // The line of an opening.
+// The number is what is printed, here and below.
 pub(crate) fn opened<W: Write>(out: &mut W, number: u8, t: Table, what: &[u8]) -> io::Result<()> {
-    figures(out, "open", number, t, what)
+    let line = CallLine {
+        name: "open",
+        number,
+        table: t,
+    };
+    words_behind(out, line, what)
 }
 
 // A guest who is not the seated one, by position.
@@ -62,7 +65,12 @@ pub(crate) fn called<W: Write>(
     stage: &Stage,
     what: &[u8],
 ) -> io::Result<()> {
-    figures(out, called.name, called.answer.number, stage.table, what)?;
+    let line = CallLine {
+        name: called.name,
+        number: called.answer.number,
+        table: stage.table,
+    };
+    words_behind(out, line, what)?;
     settlement(out, called, stage)
 }
 

@@ -6,11 +6,10 @@ mod calls;
 mod lines;
 mod rows;
 
+use stage::Stage;
 use stage::program::answer_script;
 use std::io;
 
 fn main(rt: HostRuntime) -> io::Result<()> {
-    answer_script(&rt, rt.stdin(), io::writer(&rt), |out, text| {
-        rows::each(out, text)
-    })
+    answer_script(&rt, rt.stdin(), io::writer(&rt), Stage::new(), rows::take)
 }

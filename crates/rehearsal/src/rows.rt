@@ -18,7 +18,7 @@ fn open<W: Write>(out: &mut W, stage: &mut Stage, row: Row<'_>) -> io::Result<()
 }
 
 // What the row asks of the stage.
-fn take<W: Write>(out: &mut W, stage: &mut Stage, row: Row<'_>) -> io::Result<()> {
+pub(crate) fn take<W: Write>(out: &mut W, stage: &mut Stage, row: Row<'_>) -> io::Result<()> {
     match row.letter() {
         b'#' => Ok(()),
         b'=' => heading(out, row.words),
@@ -33,13 +33,4 @@ fn take<W: Write>(out: &mut W, stage: &mut Stage, row: Row<'_>) -> io::Result<()
         b'O' => open(out, stage, row),
         _ => call(out, stage, row),
     }
-}
-
-// Each line long enough to be a row.
-pub(crate) fn each<W: Write>(out: &mut W, text: &[u8]) -> io::Result<()> {
-    let mut stage = Stage::new();
-    for row in text.split(|letter| *letter == b'\n').filter_map(Row::read) {
-        take(out, &mut stage, row)?;
-    }
-    Ok(())
 }

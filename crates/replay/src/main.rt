@@ -4,7 +4,9 @@
 mod rows;
 
 use replaying::open_file;
-use rows::{each, row};
+use rows::each;
+use stage::program::call_heading;
+use stage::shown::CallLine;
 use std::alloc::{AllocError, Global};
 use std::io;
 use std::io::{BufWriter, Read, Write};
@@ -19,8 +21,13 @@ fn room(alloc: Global) -> Result<Vec<u8>, AllocError> {
 fn replay<W: Write>(out: &mut W, file: &[u8]) -> io::Result<()> {
     match open_file(file) {
         Ok(table) => {
-            out.write_all(b"call no tray layout purses left\n")?;
-            row(out, "open", 0, *table.table())?;
+            call_heading(out)?;
+            let line = CallLine {
+                name: "open",
+                number: 0,
+                table: *table.table(),
+            };
+            writeln!(out, "{line}")?;
             each(out, file, table)
         }
         Err(why) => writeln!(out, "{}", why.number()),

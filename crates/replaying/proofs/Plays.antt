@@ -16,7 +16,7 @@ use Rattle.table.specs.declared.Table.{Table}
 use Rattle.table.proofs.Facts.{facts_sound}
 use Rattle.history.specs.Entry.{Entry}
 use Rattle.answer.specs.declared.reply.Answer.{Answer}
-use Rattle.answer.specs.Reply.{reply_by, given_by}
+use Rattle.answer.specs.Reply.{reply_by, given_by, given_of, reply_of}
 use Rattle.call.specs.Refusal.{first}
 use Rattle.cashier_spec.specs.Opening.{open_number, opened}
 use Rattle.cashier_spec.proofs.Opening.{open_good}
@@ -26,7 +26,7 @@ use Rattle.books.specs.Laws.{Whole}
 use Rattle.books.proofs.Keeps.{keeps}
 use Rattle.file_spec.specs.Number.{or_else, file_number}
 use Rattle.file_spec.specs.Reader.{call_place, first_place, handed_at, Reads}
-use Rattle.replaying.specs.Playing.{play_number, first_table, given_with}
+use Rattle.replaying.specs.Playing.{play_number, first_table}
 use Rattle.replaying.specs.Aids.Turns.{Rest, Left}
 
 -- the next table, accepted or refused
@@ -47,7 +47,7 @@ next-whole t c order whole = go (ℕ_discrete (number t c order) 0)
 
 -- the table that a step of the definition leaves
 pub left_next : (t : Table) (c : Call) (order : List ℕ) (answer : Answer) (u : Table) (names names₀ : List ℕ) (nets nets₀ : List ℤ)
-    → given_with answer u names nets ≡ given_by (step t c order) names₀ nets₀ → u ≡ next t c order
+    → given_of (reply_of answer u) names nets ≡ given_by (step t c order) names₀ nets₀ → u ≡ next t c order
 unfolding next
 left_next t c order answer u names names₀ nets nets₀ e = ap (λ g. g.table) e
 

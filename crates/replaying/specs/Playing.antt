@@ -1,11 +1,9 @@
 -- Request 2.9: "Reading a written session and playing it gives the same books." What playing a file gives: the table that its session opens with, then each call that the reader hands out is a
 -- step, accepted or refused.
-use Rattle.std.specs.Prelude.{◌≡◌, Result, List, ℕ, ℤ}
+use Rattle.std.specs.Prelude.{◌≡◌, Result, List, ℕ}
 use Rattle.call.specs.declared.refusal.Refusal.{Refusal}
 use Rattle.answer.specs.Outcome.{outcome_in}
 use Rattle.answer.specs.declared.outcome.Outcome.{Outcome}
-use Rattle.answer.specs.declared.reply.Answer.{Answer}
-use Rattle.answer.specs.Reply.{Given, given_of}
 use Rattle.table.specs.declared.Table.{Table}
 use Rattle.history.specs.Entry.{Entry}
 use Rattle.cashier_spec.specs.Opening.{open_number, opened, empty_table}
@@ -26,10 +24,6 @@ first_table file = opened (file_options file) (file_order file)
 -- What is given, as a number and a table; a refused file gives the empty table.
 abbrev pub outcome_of : Result Table Refusal → Outcome
 outcome_of r = outcome_in empty_table r
-
--- What the caller of one call has afterwards: its answer, the table as it was left, and the two arrays.
-abbrev pub given_with : Answer → Table → List ℕ → List ℤ → Given
-given_with answer table names nets = given_of (record { answer = answer; table = table }) names nets
 
 -- What opening a file gives; at number 0 the table is the opened one, and whole.
 pub record Opened (file : List ℕ) (r : Outcome) : Type 0 where

@@ -3,11 +3,11 @@
 #![tactic(auto)]
 
 ghost use Rattle.std.specs.Prelude.{◌≡◌};
-ghost use Rattle.answer.specs.Reply.{given_by};
+ghost use Rattle.answer.specs.Reply.{given_by, given_of, reply_of};
 ghost use Rattle.engine.specs.Step.{step as step_by};
 ghost use Rattle.books.specs.Laws.{Whole as IsWhole};
 ghost use Rattle.session_file.specs.Reader.{order_of};
-ghost use Rattle.replaying.specs.Playing.{Opened, Played, outcome_of, given_with};
+ghost use Rattle.replaying.specs.Playing.{Opened, Played, outcome_of};
 
 use answer::reply::Answer;
 use call::pay_line::LINES;
@@ -36,7 +36,7 @@ pub fn play_call(
     names: &mut [u32; LINES],
     nets: &mut [i64; LINES],
 ) -> Answer
-    ensures step { given_with result t.new names.new nets.new ≡ given_by (step_by t.old h.call (order_of file.now h)) names.old nets.old }
+    ensures step { given_of (reply_of result t.new) names.new nets.new ≡ given_by (step_by t.old h.call (order_of file.now h)) names.old nets.old }
     ensures whole { IsWhole t.new }
 {
     table_shape(*t.table());

@@ -4,11 +4,16 @@
 
 mod rows;
 
+use crate::rows::Show;
 use stage::program::answer_script;
 use std::io;
 
 fn main(rt: HostRuntime) -> io::Result<()> {
-    answer_script(&rt, rt.stdin(), io::writer(&rt), |out, text| {
-        rows::each(out, text)
-    })
+    answer_script(
+        &rt,
+        rt.stdin(),
+        io::writer(&rt),
+        Show::new(),
+        |out, show, row| show.take(out, row),
+    )
 }

@@ -11,12 +11,19 @@ use std::io::Write;
 
 // What is kept from row to row: the stage, and whether it is drawn.
 #[derive(Drop)]
-struct Show {
+pub(crate) struct Show {
     stage: Stage,
     quiet: bool,
 }
 
 impl Show {
+    pub(crate) fn new() -> Self {
+        Show {
+            stage: Stage::new(),
+            quiet: false,
+        }
+    }
+
     // The words and the number of a call, then all that is seen of the table after it.
     // The number is what is printed.
     fn drawn<W: Write>(&self, out: &mut W, number: u8, at: At, what: &[u8]) -> io::Result<()> {
@@ -47,7 +54,8 @@ impl Show {
         self.drawn(out, answer.number, at, row.words)
     }
 
-    fn take<W: Write>(&mut self, out: &mut W, row: Row<'_>) -> io::Result<()> {
+    // What the row asks of the stage.
+    pub(crate) fn take<W: Write>(&mut self, out: &mut W, row: Row<'_>) -> io::Result<()> {
         match row.letter() {
             b'#' => {}
             b'=' => heading(out, row.words)?,
@@ -59,16 +67,4 @@ impl Show {
         }
         Ok(())
     }
-}
-
-// Each line long enough to be a row.
-pub(crate) fn each<W: Write>(out: &mut W, text: &[u8]) -> io::Result<()> {
-    let mut show = Show {
-        stage: Stage::new(),
-        quiet: false,
-    };
-    for row in text.split(|letter| *letter == b'\n').filter_map(Row::read) {
-        show.take(out, row)?;
-    }
-    Ok(())
 }

@@ -3,6 +3,7 @@
 
 pub mod calls;
 pub mod house;
+pub mod marked;
 pub mod pay_lines;
 pub mod program;
 pub mod row;

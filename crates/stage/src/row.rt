@@ -15,8 +15,8 @@ use state::empty::no_options;
 // The letters in front, which every row has, then the words.
 #[derive(Clone, Copy)]
 pub struct Row<'a> {
-    letters: &'a [u8],
-    front: &'a [u8; 21],
+    pub letters: &'a [u8],
+    pub front: &'a [u8; 21],
     pub words: &'a [u8],
 }
 

@@ -1,11 +1,13 @@
-// How the programs write openings, cards and sums.
+// How the programs write openings, calls, cards and sums.
 ghost use Rattle.std.specs.Prelude.{◌≡◌};
 ghost use Rattle.call.specs.Refusal.{number_in};
 
 use call::refusal::Refusal;
 use cards::hand::Hand;
 use cards::score::HandScore;
+use display::shown_table;
 use std::fmt;
+use table::Table;
 
 const RANKS: [char; 13] = [
     'A', '2', '3', '4', '5', '6', '7', '8', '9', 'T', 'J', 'Q', 'K',
@@ -20,6 +22,23 @@ pub fn opening_number(opened: Result<(), Refusal>) -> u8
     match opened {
         Ok(()) => 0,
         Err(why) => why.number(),
+    }
+}
+
+// The line of a call: its name, its number, and what is read of the table after it: tray, layout, all purses, cards left.
+// The number is what is printed.
+#[derive(Clone, Copy)]
+pub struct CallLine {
+    pub name: &'static str,
+    pub number: u8,
+    pub table: Table,
+}
+
+impl fmt::Display for CallLine {
+    fn fmt<W: fmt::Write>(&self, f: &mut fmt::Formatter<W>) -> fmt::Result {
+        let shown = shown_table(self.table);
+        write!(f, "{} {} {} ", self.name, self.number, shown.tray)?;
+        write!(f, "{} {} {}", shown.layout, shown.purses, shown.left)
     }
 }
 

@@ -1,6 +1,4 @@
 // What is kept from line to line, and how a session goes on: each accepted call is told to the writer, and the blocks that it gives are kept.
-ghost use Rattle.std.specs.Prelude.{◌≤◌};
-
 use crate::asked::first_guest;
 use crate::orders::{Source, by_seed};
 use answer::reply::{Answer, Reply};
@@ -11,109 +9,93 @@ use file_writer::writer::Writer;
 use options::Options;
 use stage::pay_lines::PayLines;
 use state::empty::no_options;
+use std::alloc::{AllocError, Global};
 use std::slice;
 use table::Table;
 
 // The bytes that a session's file may have here, 2048 blocks.
 pub(crate) const ROOM: usize = 1048576;
 
-// The table and its house; how the next order is made; the writer, how many bytes of the file are complete and whether some had no room; the guest who called last; whether it is over.
-#[derive(Clone, Copy)]
+// The table and its house; how the next order is made; the arrays that each call is lent; the writer, the blocks of the file that are complete and whether some had no room; the guest who called
+// last; whether it is over.
+#[derive(Drop)]
 pub(crate) struct Desk {
     pub table: Table,
     pub house: Options,
     pub source: Source,
+    pub lines: PayLines,
     pub writer: Writer,
-    pub end: usize,
+    pub file: Vec<u8>,
     // A fact of the session, with no value beside it.
     pub lost: bool,
     pub guest: At,
     pub over: bool,
 }
 
-// The answer of a call, and the desk after it.
-#[derive(Clone, Copy)]
-pub(crate) struct Turn {
-    pub answer: Answer,
-    pub desk: Desk,
-}
-
-// The empty table, which a refused opening gives.
-pub(crate) fn empty_desk() -> Desk {
-    let table = empty_table();
-    let source = by_seed(1);
-    Desk {
-        table,
-        house: no_options(),
-        source,
-        writer: Writer::new(no_options()),
-        end: 0,
-        lost: false,
-        guest: first_guest(),
-        over: false,
-    }
-}
-
-// The blocks that are complete now, laid behind the others; one that has no room is lost.
-fn with_blocks(d: Desk, blocks: &[Block], file: &mut [u8; ROOM]) -> Desk {
-    let mut next = d;
-    for block in blocks {
-        let at = next.end;
-        if at <= ROOM - 512 {
-            file[at..at + 512].copy_from_slice(block);
-            next.end = at + 512;
-        } else {
-            next.lost = true;
+impl Desk {
+    // The empty table, which a refused opening gives.
+    pub(crate) fn new(alloc: Global) -> Self {
+        Desk {
+            table: empty_table(),
+            house: no_options(),
+            source: by_seed(1),
+            lines: PayLines::new(),
+            writer: Writer::new(no_options()),
+            file: Vec::new(alloc),
+            lost: false,
+            guest: first_guest(),
+            over: false,
         }
     }
-    next
-}
 
-// A new session with the table that an opening gave.
-pub(crate) fn opened(
-    d: Desk,
-    table: Table,
-    o: Options,
-    order: &[u8],
-    file: &mut [u8; ROOM],
-) -> Desk {
-    let mut next = d;
-    next.table = table;
-    next.house = o;
-    next.end = 0;
-    next.lost = false;
-    next.guest = first_guest();
-    match Writer::begin(o, order) {
-        Ok(begun) => {
-            let block = begun.1;
-            next.writer = begun.0;
-            with_blocks(next, slice::from_ref(&block), file)
+    // The blocks that are complete now, laid behind the others; one that has no room is lost.
+    fn lay(&mut self, blocks: &[Block]) -> Result<(), AllocError> {
+        for block in blocks {
+            if self.file.len() <= ROOM - 512 {
+                self.file.extend_from_slice(block)?;
+            } else {
+                self.lost = true;
+            }
         }
-        Err(_) => {
-            next.writer = Writer::new(o);
-            next
+        Ok(())
+    }
+
+    // A new session with the table that an opening gave.
+    pub(crate) fn open(
+        &mut self,
+        table: Table,
+        house: Options,
+        order: &[u8],
+    ) -> Result<(), AllocError> {
+        self.table = table;
+        self.house = house;
+        self.file.clear();
+        self.lost = false;
+        self.guest = first_guest();
+        match Writer::begin(house, order) {
+            Ok(begun) => {
+                let block = begun.1;
+                self.writer = begun.0;
+                self.lay(slice::from_ref(&block))
+            }
+            Err(_) => {
+                self.writer = Writer::new(house);
+                Ok(())
+            }
         }
     }
-}
 
-// One call; a refused one leaves the desk as it was.
-pub(crate) fn called(
-    d: Desk,
-    c: Call,
-    order: &[u8],
-    file: &mut [u8; ROOM],
-    lines: &mut PayLines,
-) -> Turn {
-    let Reply { answer, table } = lines.step(d.table, c, order);
-    // An answer's number, as C reads it: 0 is accepted.
-    if answer.number != 0 {
-        return Turn { answer, desk: d };
+    // One call; a refused one leaves the session as it was.
+    pub(crate) fn call(&mut self, call: Call, order: &[u8]) -> Result<Answer, AllocError> {
+        let Reply { answer, table } = self.lines.step(self.table, call, order);
+        // An answer's number, as C reads it: 0 is accepted.
+        if answer.number != 0 {
+            return Ok(answer);
+        }
+        self.table = table;
+        if let Ok(blocks) = self.writer.add(call, order) {
+            self.lay(blocks.as_slice())?;
+        }
+        Ok(answer)
     }
-    let mut next = d;
-    next.table = table;
-    let desk = match next.writer.add(c, order) {
-        Ok(blocks) => with_blocks(next, blocks.as_slice(), file),
-        Err(_) => next,
-    };
-    Turn { answer, desk }
 }

@@ -17,19 +17,12 @@ mod orders;
 mod reading;
 mod words;
 
-use crate::desk::ROOM;
 use crate::reading::session;
 use std::io;
 use std::io::{BufWriter, Write};
 
-fn room() -> [u8; ROOM] {
-    [0u8; ROOM]
-}
-
 fn main(rt: HostRuntime) -> io::Result<()> {
-    let mut file = room();
     let mut out = BufWriter::new(rt.alloc(), io::writer(&rt))?;
-    let line = Vec::new(rt.alloc());
-    session(&rt, &mut rt.stdin(), &mut out, line, &mut file)?;
+    session(&rt, &mut rt.stdin(), &mut out)?;
     out.flush()
 }

@@ -1,5 +1,5 @@
 // The input, line by line, up to its end or to quit. A read gives as much as there is: a part of a line, a line or many; the last line may have no line feed.
-use crate::desk::{Desk, ROOM, empty_desk};
+use crate::desk::Desk;
 use crate::houses::House;
 use crate::lines::{open_house, typed};
 use std::io;
@@ -30,26 +30,24 @@ impl Play {
     }
 
     // The line as it was read: a terminal has shown it as it was typed.
-    fn type_line<R: Files, W: Write>(
+    fn type_line<R: Files + AllocGlobal, W: Write>(
         &mut self,
         rt: &R,
         out: &mut W,
-        file: &mut [u8; ROOM],
     ) -> io::Result<()> {
         if !self.terminal {
             write!(out, "> ")?;
             out.write_all(&self.line)?;
             writeln!(out)?;
         }
-        typed(rt, out, &mut self.desk, &self.line, file)
+        typed(rt, out, &mut self.desk, &self.line)
     }
 
     // The line is over, and the next begins.
-    fn end_line<R: Files, W: Write>(
+    fn end_line<R: Files + AllocGlobal, W: Write>(
         &mut self,
         rt: &R,
         out: &mut W,
-        file: &mut [u8; ROOM],
     ) -> io::Result<()> {
         if self.desk.over {
             return Ok(());
@@ -60,7 +58,7 @@ impl Play {
                 "A line has at most 256 letters: the one that was longer is passed over."
             )?;
         } else {
-            self.type_line(rt, out, file)?;
+            self.type_line(rt, out)?;
         }
         self.line.clear();
         self.long = false;
@@ -68,18 +66,17 @@ impl Play {
     }
 
     // What one read gave.
-    fn feed<R: Files, W: Write>(
+    fn feed<R: Files + AllocGlobal, W: Write>(
         &mut self,
         rt: &R,
         out: &mut W,
         text: &[u8],
-        file: &mut [u8; ROOM],
     ) -> io::Result<()> {
         for piece in text.split_inclusive(|letter| *letter == b'\n') {
             match piece.strip_suffix(b"\n") {
                 Some(part) => {
                     self.add(part)?;
-                    self.end_line(rt, out, file)?;
+                    self.end_line(rt, out)?;
                 }
                 None => self.add(piece)?,
             }
@@ -88,29 +85,23 @@ impl Play {
     }
 
     // At the end of the input the letters that there are make the last line.
-    fn end<R: Files, W: Write>(
-        &mut self,
-        rt: &R,
-        out: &mut W,
-        file: &mut [u8; ROOM],
-    ) -> io::Result<()> {
+    fn end<R: Files + AllocGlobal, W: Write>(&mut self, rt: &R, out: &mut W) -> io::Result<()> {
         if self.terminal {
             writeln!(out)?;
         }
         if self.long || !self.line.is_empty() {
-            self.end_line(rt, out, file)?;
+            self.end_line(rt, out)?;
         }
         self.desk.over = true;
         Ok(())
     }
 
     // One read; what was written so far is seen before it.
-    fn turn<R: Files, I: Read, W: Write>(
+    fn turn<R: Files + AllocGlobal, I: Read, W: Write>(
         &mut self,
         rt: &R,
         input: &mut I,
         out: &mut W,
-        file: &mut [u8; ROOM],
     ) -> io::Result<()> {
         if self.terminal {
             write!(out, "> ")?;
@@ -118,38 +109,36 @@ impl Play {
         out.flush()?;
         let mut text = [0u8; 4096];
         match input.read(&mut text)? {
-            0 => self.end(rt, out, file),
-            count => self.feed(rt, out, &text[..count], file),
+            0 => self.end(rt, out),
+            count => self.feed(rt, out, &text[..count]),
         }
     }
 }
 
 // The first house, its order shuffled by seed 1. A proved loop has to end, and nothing says that the input does: so the turns are counted, up to a number that no run
 // uses up.
-pub(crate) fn session<R: Files, I: Read + IsTerminal, W: Write>(
+pub(crate) fn session<R: Files + AllocGlobal, I: Read + IsTerminal, W: Write>(
     rt: &R,
     input: &mut I,
     out: &mut W,
-    line: Vec<u8>,
-    file: &mut [u8; ROOM],
 ) -> io::Result<()> {
     writeln!(
         out,
         "Discgauze: a blackjack table. Type a call, as fill 10000, buy 2 100, stake 2 20, deal; or help, houses, quit."
     )?;
     let mut play = Play {
-        desk: empty_desk(),
-        line,
+        desk: Desk::new(rt.alloc()),
+        line: Vec::new(rt.alloc()),
         long: false,
         terminal: input.is_terminal(),
     };
-    open_house(out, &mut play.desk, House::Marked.options(), file)?;
+    open_house(out, &mut play.desk, House::Marked.options())?;
     // A loop with no end in sight: the count lets it be proved that it ends.
     for _ in 0..u64::MAX {
         if play.desk.over {
             break;
         }
-        play.turn(rt, input, out, file)?;
+        play.turn(rt, input, out)?;
     }
     Ok(())
 }
