@@ -2,18 +2,18 @@
 use mathlib.Core.Path.{◌≡◌, refl, sym, ◌∙◌, ap}
 use mathlib.Core.Bool.{Bool, true, false, not, ◌&&◌, and-false, and-eq-true_iff, true≢false}
 use mathlib.Core.List.{List, [], ◌∷◌, ◌++◌}
-use Prim.Native.Nat.{ℕ, ◌<◌}
+use Prim.Native.Nat.{ℕ, zero, suc, ◌<◌}
 use native.Mathlib.Omega.{arith}
 use lib.Dec.{ltb, eqb}
-use borrow.Author.Tests.{ltb-true, eq-eqb}
-use Rattle.std.specs.Prelude.{Result, Err}
-use Rattle.std.specs.Result.{IsErrAnd}
+use borrow.Author.Tests.{ltb-true, lt-ltb, eq-eqb}
+use Rattle.std.specs.Prelude.{Result, Ok, Err, IfOk}
+use Rattle.std.specs.Result.{IsErrAnd, result_and}
 use Rattle.std.proofs.lemmas.Result.{err_from_is_err_and}
 use Rattle.lists.specs.Tests.{any_of, all_of}
 use Rattle.lists.proofs.Tests.{or_eq_false}
 use Rattle.call.specs.declared.refusal.Refusal.{Refusal}
 use Rattle.call.specs.declared.refusal.Refusal.TheVariants.{Broken, WrongOptions, WrongOrder, RoundDealt, NoRound, NothingStaked, HandWaits, NoSeat, LaidAlready, NoStake, NotInTurn, TooLate, Barred, WrongAmount, ShortPurse, ShortTray, ShortShoe, NoCards, NoPair, HandsUsedUp, NoSideKind, NoPosition, NotDeciding, FileLength, FileCheck, FileContent, WrongDepth, Taken, NotHere}
-use Rattle.call.specs.Refusal.{Condition, number_of, first, holds, FirstAt}
+use Rattle.call.specs.Refusal.{Condition, number_of, number_in, first, holds, FirstAt}
 
 says : (before : List Condition) (n : ℕ) (after : List Condition) → any_of holds before ≡ false → first (before ++ (n, true) ∷ after) ≡ n
 unfolding first any_of
@@ -126,3 +126,20 @@ refusal_some FileContent e = absurd (omega arith)
 refusal_some WrongDepth e = absurd (omega arith)
 refusal_some Taken e = absurd (omega arith)
 refusal_some NotHere e = absurd (omega arith)
+
+-- so it is past 0
+pub refusal_number : (why : Refusal) → ltb 0 (number_of why) ≡ true
+refusal_number why = go (number_of why) (refusal_some why)
+  where
+    go : (n : ℕ) → (n ≡ 0 → ⊥) → ltb 0 n ≡ true
+    go zero h = absurd (h refl)
+    go (suc n) h = lt-ltb 0 (suc n) (omega arith)
+
+-- a value handed on where nothing refuses it
+pub and_number : {T U : Type 0} (r : Result T Refusal) (x : U) → number_in (result_and r (Ok x)) ≡ number_in r
+and_number (Ok _) x = refl
+and_number (Err why) x = refl
+
+pub and_value : {T U : Type 0} (r : Result T Refusal) (x : U) → IfOk (result_and r (Ok x)) (λ y. y ≡ x)
+and_value (Ok _) x = refl
+and_value (Err why) x = tt

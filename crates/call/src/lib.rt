@@ -1,6 +1,7 @@
 // The seventeen calls of document 01 and the side stake of request 2.6 as one enum, with seat and amount as data. A load carries no order: it is lent beside the call.
 #![tactic(auto)]
 
+pub mod guest;
 pub mod pay_line;
 pub mod refusal;
 

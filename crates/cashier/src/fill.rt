@@ -13,6 +13,7 @@ use table::Table;
 use table::whole::Whole;
 
 // Why a fill is refused: the conditions of its list, from the front.
+// `credit` reads alike and asks another thing of the amount: one function of both would take a code that says which, and the definitions of both.
 fn check_fill(t: &Whole, n: u64) -> Result<(), Refusal>
     ensures { number_in result ≡ first (fill_conditions t.now n) }
 {

@@ -1,28 +1,22 @@
-// A guest's purse, read and replaced in its seat, for the calls that move money between it and the cashier: buy and cash. An accepted call's position is one of
-// the three.
-ghost use Rattle.std.specs.Prelude.{◌≡◌, ◌<◌};
+// A guest's purse replaced, for the calls that move money between it and the cashier: buy and cash.
+ghost use Rattle.std.specs.Prelude.{◌≡◌};
 ghost use Rattle.table.specs.Guest.{with_purse};
-ghost use Rattle.table.specs.Seat.{purse as purse_of, guest_at, with_guest};
+ghost use Rattle.table.specs.Seat.{with_guest};
+ghost use Rattle.table.specs.Table.{seat_at, guest_of};
+ghost use Rattle.answer.specs.Moved.{make_moved};
 
-use call::At;
-use state::seat::{guest_money, with_guest};
-use table::Seat;
+use answer::moved::{Moved, money_moved};
+use call::guest::Guest;
+use state::seat::guest_money;
+use table::{Money, Table};
 
-// What is in the guest's purse.
-pub(crate) fn purse_at(s: Seat, at: At) -> u64
-    requires { at.position < 3 }
-    ensures { result ≡ purse_of (guest_at s at.position) }
+// Nothing but the guest's purse is moved.
+pub(crate) fn purse_moved(t: &Table, g: Guest, purse: u64) -> Moved
+    ensures { result ≡ make_moved t.now.tray (with_guest (seat_at t.now g.seat) g.position (with_purse (guest_of t.now g.seat g.position).money purse)) t.now.shoe.drawn 0 }
 {
-    let money = guest_money(s, at.position);
-    money.purse
-}
-
-// The seat with another purse of the guest.
-pub(crate) fn with_purse_at(s: Seat, at: At, purse: u64) -> Seat
-    requires { at.position < 3 }
-    ensures { result ≡ with_guest s at.position (with_purse (guest_at s at.position).money purse) }
-{
-    let mut money = guest_money(s, at.position);
-    money.purse = purse;
-    with_guest(s, at.position, money)
+    let money = Money {
+        purse,
+        ..*guest_money(t, g)
+    };
+    money_moved(t, g, money)
 }

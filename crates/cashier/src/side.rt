@@ -1,7 +1,7 @@
 // A side stake: from purse to layout, before the deal, of a guest who has a stake, once for each kind (request 2.6). For every whole table, guest, kind and amount its
 // outcome is that of cashier_spec/specs/Side.antt.
 ghost use Rattle.std.specs.Prelude.{◌≡◌, ◌≤◌};
-ghost use Rattle.call.specs.Refusal.{number_in, first};
+ghost use Rattle.answer.specs.Checked.{Checked};
 ghost use Rattle.answer.specs.Moved.{moved_outcome};
 ghost use Rattle.answer.specs.Outcome.{outcome};
 ghost use Rattle.payment.specs.Bets.{side as side_of};
@@ -9,12 +9,12 @@ ghost use Rattle.table.specs.Guest.{siding};
 ghost use Rattle.cashier_spec.specs.Side.{is_side_kind, side_conditions, side_effect};
 
 use answer::conditions::check_seat;
-use answer::moved::{Moved, seat_moved};
+use answer::moved::{Moved, money_moved};
 use call::At;
+use call::guest::Guest;
 use call::refusal::{Refusal, first_refusal};
 use options::permitted::side_permitted;
-use state::round::is_dealt;
-use state::seat::{guest_money, with_guest};
+use state::seat::guest_money;
 use table::Money;
 use table::whole::Whole;
 
@@ -43,45 +43,40 @@ fn side_of(sides: [u32; 4], kind: u8) -> u32
 
 // A guest's money with n of the purse laid as a side stake of that kind.
 fn sided(m: Money, kind: u8, n: u64) -> Money
-    requires { (1 ≤ kind) × (kind ≤ 4) × (n ≤ m.purse) × (n ≤ 100000) }
+    requires { (1 ≤ kind) × (kind ≤ 4) × (n ≤ 100000) }
     ensures { result ≡ siding m kind n }
 {
     let mut next = m;
     let at = (kind - 1) as usize;
-    next.purse = m.purse - n;
+    next.purse = m.purse.saturating_sub(n);
     next.sides[at] = n as u32;
     next
 }
 
-// Why a side stake is refused: what every call of a seat asks first, 21 and 22, then the rest of its list.
-fn check_side(t: &Whole, at: At, kind: u8, n: u64) -> Result<(), Refusal>
-    ensures { number_in result ≡ first (side_conditions t.now at.seat at.position kind n) }
+// Why a side stake is refused, or its guest: what every call of a seat asks first, 21 and 22, then the rest of its list.
+fn check_side(t: &Whole, at: At, kind: u8, n: u64) -> Result<Guest, Refusal>
+    ensures { Checked (side_conditions t.now at.seat at.position kind n) at result }
 {
-    let table = t.table();
-    check_seat(
-        Refusal::RoundDealt,
-        is_dealt(*table),
-        table.options.seats,
-        at.seat,
-    )?;
+    check_seat(t, at.seat)?;
     first_refusal(&[
         (Refusal::NoSideKind, !is_side_kind(kind)),
         (Refusal::NoPosition, 3 <= at.position),
     ])?;
-    let money = guest_money(*t.seat(at.seat), at.position);
+    let guest = Guest::new(at);
+    let money = guest_money(t.table(), guest);
     first_refusal(&[
         (Refusal::LaidAlready, 0 < side_of(money.sides, kind)),
         (Refusal::NoStake, !(0 < money.stake)),
         (Refusal::WrongAmount, !side_permitted(n)),
         (Refusal::ShortPurse, money.purse < n),
     ])
+    .and(Ok(guest))
 }
 
 pub fn side(t: &Whole, at: At, kind: u8, n: u64) -> Result<Moved, Refusal>
     ensures { moved_outcome t.now at.seat result ≡ outcome (side_conditions t.now at.seat at.position kind n) (side_effect t.now at.seat at.position kind n) t.now }
 {
-    check_side(t, at, kind, n)?;
-    let s = *t.seat(at.seat);
-    let money = sided(guest_money(s, at.position), kind, n);
-    Ok(seat_moved(t.table(), with_guest(s, at.position, money)))
+    let guest = check_side(t, at, kind, n)?;
+    let t = t.table();
+    Ok(money_moved(t, guest, sided(*guest_money(t, guest), kind, n)))
 }

@@ -4,6 +4,7 @@ ghost use Rattle.table.specs.Broken.{broken};
 ghost use Rattle.dealer_screen.specs.Lights.{accepts as accepts_by, smallest_insurance, lights_at, seat_lights, all_lights};
 ghost use Rattle.dealer_screen.specs.Laws.{dark as dark_lights};
 
+use call::guest::Guest;
 use call::pay_line::LINES;
 use call::{At, Call};
 use engine::step_whole;
@@ -49,27 +50,24 @@ fn accepts(t: &Whole, c: Call) -> bool
     r.answer.number == 0
 }
 
-// Half of the guest's stake. It asks for one of the 27.
-fn smallest_insurance(t: &Whole, at: At) -> u64
-    requires seat { at.seat < 9 }
-    requires position { at.position < 3 }
-    ensures { result ≡ smallest_insurance t.now at }
+// Half of the guest's stake.
+fn smallest_insurance(t: &Table, g: Guest) -> u64
+    ensures { result ≡ smallest_insurance t.now g }
 {
-    let money = guest_money(*t.seat(at.seat), at.position);
+    let money = guest_money(t, g);
     (money.stake / 2) as u64
 }
 
-fn lights_at(t: &Whole, at: At) -> Lights
-    requires seat { at.seat < 9 }
-    requires position { at.position < 3 }
-    ensures { result ≡ lights_at t.now at }
+fn lights_at(t: &Whole, g: Guest) -> Lights
+    ensures { result ≡ lights_at t.now g }
 {
+    let at = g.at();
     let o = t.table().options;
     Lights {
         buy: accepts(t, Call::Buy(at, 1)),
         cash: accepts(t, Call::Cash(at, 1)),
         stake: accepts(t, Call::Stake(at, o.smallest as u64)),
-        insure: accepts(t, Call::Insure(at, smallest_insurance(t, at))),
+        insure: accepts(t, Call::Insure(at, smallest_insurance(t.table(), g))),
         stand: accepts(t, Call::Stand(at)),
         draw: accepts(t, Call::Draw(at)),
         double: accepts(t, Call::Double(at)),
@@ -110,9 +108,9 @@ fn seat_lights(t: &Whole, seat: u8) -> SeatLights
     requires { seat < 9 }
     ensures { result ≡ seat_lights t.now seat }
 {
-    let seated = lights_at(t, At { seat, position: 0 });
-    let one = lights_at(t, At { seat, position: 1 });
-    let other = lights_at(t, At { seat, position: 2 });
+    let seated = lights_at(t, Guest::new(At { seat, position: 0 }));
+    let one = lights_at(t, Guest::new(At { seat, position: 1 }));
+    let other = lights_at(t, Guest::new(At { seat, position: 2 }));
     SeatLights {
         guests: [seated, one, other],
     }

@@ -1,2 +1,2 @@
--- The calls' definitions stand in decisions_spec; this crate adds only what its own functions share.
-pub mod Aids
+-- The calls' definitions stand in decisions_spec; this crate adds what its check of a decision in turn gives.
+pub mod InTurn

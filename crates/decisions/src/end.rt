@@ -2,21 +2,21 @@
 ghost use Rattle.std.specs.Prelude.{◌≡◌};
 ghost use Rattle.answer.specs.Moved.{moved_table};
 ghost use Rattle.decisions_spec.specs.Turn.{end_effect};
-ghost use Rattle.decisions.specs.Aids.InTurn.{InTurn};
+ghost use Rattle.decisions.specs.InTurn.{InTurn};
 
-use crate::turn::{hand_in_turn, with_place};
+use crate::turn::{HandInTurn, with_place};
 use answer::moved::{Moved, seat_moved};
-use call::At;
-use table::whole::Whole;
+use state::seat::guest_seat;
+use table::Table;
 
-// By the decision of this code. It asks that the seat's turn has come.
+// By the decision of this code. It asks that the hand is the one whose turn it is.
 // The code is the byte that the hand then holds.
-pub(crate) fn ended(t: &Whole, at: At, code: u8) -> Moved
-    requires { InTurn t.now at.seat }
-    ensures { moved_table t.now at.seat result ≡ end_effect code t.now at.seat }
+pub(crate) fn ended(t: &Table, turn: HandInTurn, code: u8) -> Moved
+    requires { InTurn t.now turn }
+    ensures { moved_table t.now turn.guest.seat result ≡ end_effect code t.now turn.guest.seat }
 {
-    let turn = hand_in_turn(t, at);
     let mut hand = turn.in_seat.hand;
     hand.ended = code;
-    seat_moved(t.table(), with_place(*t.seat(at.seat), turn.place, hand))
+    let seat = *guest_seat(t, turn.guest);
+    seat_moved(t, with_place(seat, turn.place, hand))
 }

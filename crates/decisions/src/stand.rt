@@ -5,7 +5,7 @@ ghost use Rattle.answer.specs.Outcome.{outcome};
 ghost use Rattle.decisions_spec.specs.Stand.{stand_conditions, stand_effect};
 
 use crate::end::ended;
-use crate::turn::check_turn;
+use crate::turn::hand_in_turn;
 use answer::moved::Moved;
 use call::At;
 use call::refusal::Refusal;
@@ -15,6 +15,6 @@ use table::whole::Whole;
 pub fn stand(t: &Whole, at: At) -> Result<Moved, Refusal>
     ensures { moved_outcome t.now at.seat result ≡ outcome (stand_conditions t.now at.seat at.position) (stand_effect t.now at.seat) t.now }
 {
-    check_turn(t, at)?;
-    Ok(ended(t, at, BY_STAND))
+    let turn = hand_in_turn(t, at)?;
+    Ok(ended(t.table(), turn, BY_STAND))
 }

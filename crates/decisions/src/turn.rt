@@ -1,67 +1,46 @@
-// What the six decisions in turn share: their conditions, the hand whose turn it is with what the rules ask of it, and a hand put back in its place.
-// Public for the decisions that draw cards (crate draw). `waiting_hand` and `hand_in_turn` ask that a hand of the seat waits, as one does behind `check_turn`.
-ghost use Rattle.std.specs.Prelude.{◌≡◌, ◌<◌, true, length};
-ghost use Rattle.call.specs.Refusal.{number_in, first};
-ghost use Rattle.rules.specs.Turn.{seat_waits, waiting_place};
+// What the six decisions in turn share: their conditions, behind which stands the hand whose turn it is with what the rules ask of it, and a hand put back in its place.
+// Public for the decisions that draw cards (crate draw).
+ghost use Rattle.std.specs.Prelude.{◌≡◌, true};
+ghost use Rattle.rules.specs.Turn.{seat_waits};
 ghost use Rattle.table.specs.Seat.{hands as hands_of};
 ghost use Rattle.table.specs.Table.{seat_at, up as up_of};
-ghost use Rattle.decisions_spec.specs.Place.{place_of, with_place};
-ghost use Rattle.decisions_spec.specs.Turn.{turn_conditions, waiting_place_of, waiting_hand_of};
-ghost use Rattle.decisions.specs.Aids.InTurn.{InTurn};
+ghost use Rattle.decisions_spec.specs.Place.{with_place};
+ghost use Rattle.decisions_spec.specs.Turn.{turn_conditions};
+ghost use Rattle.decisions.specs.InTurn.{InTurn, TurnChecked};
 
-use answer::conditions::check_guest;
+use answer::conditions::guest_in_round;
 use call::At;
+use call::guest::Guest;
 use call::refusal::{Refusal, first_refusal};
-use options::Options;
 use rules::seat_hand::{HandInSeat, SeatHand, used};
 use rules::turn::waiting_place;
-use state::round::{is_dealt, up};
-use state::seat::{decider, guest_money};
+use state::round::up;
+use state::seat::{decider, guest_money, guest_seat};
+use state::shape::places_shape;
 use state::turn::seat_in_turn;
-use table::Seat;
 use table::whole::Whole;
+use table::{Seat, Table};
 
-// Why a decision in turn is refused, whatever it asks behind: the conditions of every call of a guest, then 10 no stake, 11 not that seat's turn, 23 not the deciding
-// guest.
-pub fn check_turn(t: &Whole, at: At) -> Result<(), Refusal>
-    ensures { number_in result ≡ first (turn_conditions t.now at.seat at.position) }
-{
-    let table = t.table();
-    check_guest(Refusal::NoRound, !is_dealt(*table), table.options.seats, at)?;
-    let s = *t.seat(at.seat);
-    let money = guest_money(s, at.position);
-    first_refusal(&[
-        (Refusal::NoStake, !(0 < money.stake)),
-        (
-            Refusal::NotInTurn,
-            seat_in_turn(table) != usize::from(at.seat),
-        ),
-        (
-            Refusal::NotDeciding,
-            decider(table.options, s) != at.position,
-        ),
-    ])
-}
-
-// A hand whose turn it is, as the rules are asked of it, and its place among those of its seat.
+// A hand whose turn it is: the guest who decides for it, its place among those of its seat, and itself as the rules are asked of it.
 #[derive(Clone, Copy)]
 pub struct HandInTurn {
+    pub guest: Guest,
     pub place: usize,
     pub in_seat: HandInSeat,
 }
 
-// The first waiting hand of a seat that has one.
-pub fn waiting_hand(o: Options, up: u8, s: Seat) -> HandInTurn
-    requires { seat_waits o up (hands_of s) ≡ true }
-    ensures up { result.in_seat.up ≡ up }
-    ensures many { result.in_seat.many ≡ length (hands_of s) }
-    ensures place { result.place ≡ waiting_place o up (hands_of s) }
-    ensures four { result.place < 4 }
-    ensures hand { result.in_seat.hand ≡ place_of s (waiting_place o up (hands_of s)) }
+// The first waiting hand of the guest's seat, which has one.
+fn waiting_hand(t: &Table, guest: Guest) -> HandInTurn
+    requires { seat_waits t.now.options (up_of t.now) (hands_of (seat_at t.now guest.seat)) ≡ true }
+    ensures same { result.guest ≡ guest }
+    ensures turn { InTurn t.now result }
 {
-    let hands = s.hands;
-    let place = waiting_place(o, up, hands);
+    let hands = guest_seat(t, guest).hands;
+    places_shape(&hands.places);
+    let up = up(*t);
+    let place = waiting_place(t.options, up, hands);
     HandInTurn {
+        guest,
         place,
         in_seat: HandInSeat {
             up,
@@ -71,18 +50,23 @@ pub fn waiting_hand(o: Options, up: u8, s: Seat) -> HandInTurn
     }
 }
 
-// That of the seat whose turn has come.
-pub fn hand_in_turn(t: &Whole, at: At) -> HandInTurn
-    requires { InTurn t.now at.seat }
-    ensures up { result.in_seat.up ≡ up_of t.now }
-    ensures many { result.in_seat.many ≡ length (hands_of (seat_at t.now at.seat)) }
-    ensures place { result.place ≡ waiting_place_of t.now at.seat }
-    ensures four { result.place < 4 }
-    ensures hand { result.in_seat.hand ≡ waiting_hand_of t.now at.seat }
+// Why a decision in turn is refused, whatever it asks behind: the conditions of every call of a guest, then 10 no stake, 11 not that seat's turn, 23 not the deciding
+// guest. Behind them stands the hand.
+pub fn hand_in_turn(t: &Whole, at: At) -> Result<HandInTurn, Refusal>
+    ensures { TurnChecked (turn_conditions t.now at.seat at.position) t.now at result }
 {
-    let s = *t.seat(at.seat);
+    let guest = guest_in_round(t, at)?;
     let t = t.table();
-    waiting_hand(t.options, up(*t), s)
+    let money = guest_money(t, guest);
+    first_refusal(&[
+        (Refusal::NoStake, !(0 < money.stake)),
+        (Refusal::NotInTurn, seat_in_turn(t) != guest.seat()),
+        (
+            Refusal::NotDeciding,
+            decider(t.options, *guest_seat(t, guest)) != at.position,
+        ),
+    ])?;
+    Ok(waiting_hand(t, guest))
 }
 
 // The seat with that hand in place p; the seat itself where it has no such place.

@@ -13,7 +13,7 @@ use money::sums::table_sums;
 use options::Options;
 use state::empty::no_options;
 use state::round::{cards_left, is_dealt, up};
-use state::seat::{decider, seat_at};
+use state::seat::decider;
 use state::turn::{place_in_turn, seat_in_turn};
 use table::Table;
 
@@ -107,6 +107,6 @@ pub fn shown_turn(t: Table) -> TurnShown
         somebody: true,
         seat,
         place: place_in_turn(t),
-        position: decider(t.options, seat_at(t, seat)),
+        position: decider(t.options, t.seats[seat]),
     }
 }

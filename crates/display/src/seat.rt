@@ -3,11 +3,13 @@ ghost use Rattle.std.specs.Prelude.{◌≡◌};
 ghost use Rattle.display.specs.Seat.{seat_values, guest_or_empty, seat_shown};
 
 use broken::broken;
+use call::At;
+use call::guest::Guest;
 use money::seat_money::{laid, prizes};
 use options::Options;
 use rules::seat_hand::used;
 use state::empty::empty_seat;
-use state::seat::{guest_at, seat_at};
+use state::seat::guest_of;
 use table::{Money, Seat, Table};
 
 // The purse, the stake, the insurance and the side stakes by kind; the layout money and the prizes in this round; how many hands.
@@ -56,7 +58,7 @@ pub(crate) fn guest_or_empty(t: Table, seat: u8, position: u8) -> Seat
     if 3 <= position {
         return empty_seat();
     }
-    guest_at(seat_at(t, seat as usize), position)
+    guest_of(&t, Guest::new(At { seat, position }))
 }
 
 pub fn shown_seat(t: Table, seat: u8, position: u8) -> SeatShown

@@ -12,16 +12,14 @@ ghost use Rattle.draw.specs.Aids.Grown.{grown_by, grown_seat};
 ghost use Rattle.draw.specs.Aids.Drawable.{Affords, AllAfford, one_prize_each, Drawable};
 
 use answer::moved::Moved;
-use call::At;
 use cards::hand::with_card;
-use decisions::turn::{hand_in_turn, with_place};
+use decisions::turn::{HandInTurn, with_place};
 use options::Options;
 use payment::prize::prize;
 use rules::seat_hand::SeatHand;
 use shoe::card_ahead;
-use state::seat::guest_money;
-use table::whole::Whole;
-use table::{Money, Seat};
+use state::seat::guest_seat;
+use table::{Money, Seat, Table};
 
 // The hand with one card more, ended by this code.
 // The code is the byte that the hand then holds.
@@ -46,7 +44,7 @@ fn short(m: Money) -> bool
 pub(crate) fn purse_short(s: Seat) -> bool
     ensures { result ≡ purse_short s }
 {
-    short(guest_money(s, 0)) || (short(guest_money(s, 1)) || short(guest_money(s, 2)))
+    short(s.money) || (short(s.others[0]) || short(s.others[1]))
 }
 
 // A guest's money once the hand has its card: so many more stakes laid, and its prize won.
@@ -65,10 +63,8 @@ fn all_won(o: Options, s: Seat, h: SeatHand) -> u64
     requires { one_prize_each s ≤ most_money }
     ensures { result ≡ over_guests (λ g. prize_of o (stake g) (played_of h)) s }
 {
-    let seated = guest_money(s, 0);
-    let one = guest_money(s, 1);
-    let other = guest_money(s, 2);
-    prize(o, seated.stake, h) + prize(o, one.stake, h) + prize(o, other.stake, h)
+    let [one, other] = s.others;
+    prize(o, s.money.stake, h) + prize(o, one.stake, h) + prize(o, other.stake, h)
 }
 
 // The seat with that hand in its place p, and its guests' money so changed.
@@ -86,22 +82,20 @@ fn grown_seat(o: Options, p: usize, s: Seat, h: SeatHand, times: u64) -> Seat
 }
 
 // Each guest of the seat lays so many more stakes, its hand takes the next card and has this code, and the prizes of that hand go from tray to purses.
-pub(crate) fn with_next_card(t: &Whole, at: At, times: u64, code: u8) -> Moved
-    requires { Drawable t.now at.seat times }
-    ensures table { moved_table t.now at.seat result ≡ card_effect times code t.now at.seat }
-    ensures hand { result.hand ≡ waiting_place_of t.now at.seat }
+pub(crate) fn with_next_card(t: &Table, turn: HandInTurn, times: u64, code: u8) -> Moved
+    requires { Drawable t.now turn times }
+    ensures table { moved_table t.now turn.guest.seat result ≡ card_effect times code t.now turn.guest.seat }
+    ensures hand { result.hand ≡ waiting_place_of t.now turn.guest.seat }
 {
-    let s = *t.seat(at.seat);
-    let turn = hand_in_turn(t, at);
-    let table = t.table();
-    let o = table.options;
-    let next = card_ahead(&table.shoe.order, table.shoe.drawn, 0);
+    let s = *guest_seat(t, turn.guest);
+    let o = t.options;
+    let next = card_ahead(&t.shoe.order, t.shoe.drawn, 0);
     let h = grown(turn.in_seat.hand, next, code);
     let won = all_won(o, s, h);
     Moved {
-        tray: table.tray - won,
+        tray: t.tray - won,
         seat: grown_seat(o, turn.place, s, h, times),
-        drawn: table.shoe.drawn + 1,
+        drawn: t.shoe.drawn + 1,
         hand: turn.place,
     }
 }

@@ -1,12 +1,13 @@
 // split: the hand whose turn it is, a pair, becomes two, and each guest's stake is laid again for the new one (document 01, "The seventeen calls", the guest;
 // article 16).
-ghost use Rattle.std.specs.Prelude.{◌≡◌, ◌<◌, ◌≤◌, get_or, length, IfOk};
+ghost use Rattle.std.specs.Prelude.{◌≡◌, ◌<◌, ◌≤◌, get_or};
 ghost use Rattle.cards.specs.Hand.{cards_of};
-ghost use Rattle.call.specs.Refusal.{number_in, first as first_of};
 ghost use Rattle.answer.specs.Moved.{moved_table, moved_outcome};
 ghost use Rattle.answer.specs.Outcome.{outcome};
 ghost use Rattle.decisions_spec.specs.Split.{split_conditions, split_effect, split_hand, split_places, split_first, staked_again};
 ghost use Rattle.decisions_spec.specs.Turn.{waiting_place_of};
+ghost use Rattle.decisions.specs.InTurn.{TurnChecked};
+ghost use Rattle.draw.specs.Told.{Told};
 ghost use Rattle.draw.specs.Aids.Splits.{two_for, Pays, Splits};
 
 use crate::card::purse_short;
@@ -16,12 +17,13 @@ use call::refusal::{Refusal, first_refusal};
 use cards::card::is_ace;
 use cards::hand::{Hand, empty_hand, with_card};
 use cards::pair::is_pair;
-use decisions::turn::{check_turn, hand_in_turn};
+use decisions::turn::{HandInTurn, hand_in_turn};
 use rules::seat_hand::{NOT_ENDED, SPLIT, SPLIT_ACES, SeatHand, SeatHands};
 use shoe::card_ahead;
 use state::round::cards_left;
+use state::seat::guest_seat;
 use table::whole::Whole;
-use table::{Money, Seat};
+use table::{Money, Seat, Table};
 
 // A hand of a kept card and a drawn one.
 fn split_hand(kept: u8, card: u8) -> SeatHand
@@ -121,48 +123,44 @@ fn split_seat(s: Seat, p: usize, h: SeatHand, first: u8, second: u8) -> Seat
 }
 
 // What the split of that seat moves: two cards are drawn, the first to the parent.
-fn split_moved(t: &Whole, at: At) -> Moved
-    requires { Splits t.now at.seat }
-    ensures table { moved_table t.now at.seat result ≡ split_effect t.now at.seat }
-    ensures hand { result.hand ≡ waiting_place_of t.now at.seat }
+fn split_moved(t: &Table, turn: HandInTurn) -> Moved
+    requires { Splits t.now turn }
+    ensures table { moved_table t.now turn.guest.seat result ≡ split_effect t.now turn.guest.seat }
+    ensures hand { result.hand ≡ waiting_place_of t.now turn.guest.seat }
 {
-    let s = *t.seat(at.seat);
-    let turn = hand_in_turn(t, at);
-    let table = t.table();
-    let first = card_ahead(&table.shoe.order, table.shoe.drawn, 0);
-    let second = card_ahead(&table.shoe.order, table.shoe.drawn, 1);
+    let s = *guest_seat(t, turn.guest);
+    let first = card_ahead(&t.shoe.order, t.shoe.drawn, 0);
+    let second = card_ahead(&t.shoe.order, t.shoe.drawn, 1);
     Moved {
-        tray: table.tray,
+        tray: t.tray,
         seat: split_seat(s, turn.place, turn.in_seat.hand, first, second),
-        drawn: table.shoe.drawn + 2,
+        drawn: t.shoe.drawn + 2,
         hand: turn.place,
     }
 }
 
 // Behind the conditions in turn: 19 no pair, 20 the seat's hands are used up, 15 a guest's purse is below the stake, 18 fewer than two cards are left.
-fn check_split(t: &Whole, at: At) -> Result<(), Refusal>
-    ensures number { number_in result ≡ first_of (split_conditions t.now at.seat at.position) }
-    ensures nine { length t.now.seats ≡ 9 }
+fn check_split(t: &Whole, at: At) -> Result<HandInTurn, Refusal>
+    ensures { TurnChecked (split_conditions t.now at.seat at.position) t.now at result }
 {
-    let table = t.table();
-    check_turn(t, at)?;
-    let turn = hand_in_turn(t, at);
+    let turn = hand_in_turn(t, at)?;
+    let t = t.table();
     first_refusal(&[
         (Refusal::NoPair, !is_pair(turn.in_seat.hand.hand)),
         (
             Refusal::HandsUsedUp,
-            usize::from(table.options.hands) <= turn.in_seat.many,
+            usize::from(t.options.hands) <= turn.in_seat.many,
         ),
-        (Refusal::ShortPurse, purse_short(*t.seat(at.seat))),
-        (Refusal::NoCards, cards_left(*table) < 2),
+        (Refusal::ShortPurse, purse_short(*guest_seat(t, turn.guest))),
+        (Refusal::NoCards, cards_left(*t) < 2),
     ])
+    .and(Ok(turn))
 }
 
 pub fn split(t: &Whole, at: At) -> Result<Moved, Refusal>
     ensures same { moved_outcome t.now at.seat result ≡ outcome (split_conditions t.now at.seat at.position) (split_effect t.now at.seat) t.now }
-    ensures shown { IfOk result (λ m. (at.seat < 9) × (m.hand ≡ waiting_place_of t.now at.seat)) }
-    ensures nine { length t.now.seats ≡ 9 }
+    ensures told { Told t.now at.seat result }
 {
-    check_split(t, at)?;
-    Ok(split_moved(t, at))
+    let turn = check_split(t, at)?;
+    Ok(split_moved(t.table(), turn))
 }

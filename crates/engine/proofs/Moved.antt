@@ -8,7 +8,7 @@ use lib.Dec.{eqb}
 use lib.ListN.{length}
 use lib.Seq.{get_or-set_same}
 use borrow.Author.Tests.{ne_eqb}
-use Rattle.std.specs.Prelude.{Result, Ok, Err, IfOk}
+use Rattle.std.specs.Prelude.{Result, Ok, Err}
 use Rattle.cards.specs.declared.score.HandScore.{HandScore}
 use Rattle.call.specs.declared.refusal.Refusal.{Refusal}
 use Rattle.call.specs.Refusal.{Condition, number_of, first}
@@ -18,15 +18,12 @@ use Rattle.table.specs.Seat.{missing_seat}
 use Rattle.table.specs.Table.{seat_at}
 use Rattle.decisions_spec.specs.Turn.{waiting_place_of}
 use Rattle.answer.specs.declared.moved.Moved.{Moved}
+use Rattle.draw.specs.Told.{Told}
 use Rattle.answer.specs.declared.outcome.Outcome.{Outcome}
 use Rattle.answer.specs.Moved.{moved_table, moved_outcome}
 use Rattle.answer.specs.Outcome.{make_outcome, outcome}
 use Rattle.engine.specs.Scores.{card_scores, split_scores}
 use Rattle.engine.specs.Aids.MovedScores.{shown_by, moved_card, moved_split}
-
--- what the call of seat j says of an accepted one
-abbrev pub Told : Table → ℕ → Result Moved Refusal → Type 0
-Told t j r = IfOk r (λ m. (j < 9) × (m.hand ≡ waiting_place_of t j))
 
 module _ (t : Table) (j : ℕ) (conditions : List Condition) (effect : Table) (full : length t.seats ≡ 9) where
   -- an accepted call has moved its effect; its seat there is the one that it gave back

@@ -4,15 +4,26 @@ use mathlib.Core.Bool.{cond}
 use mathlib.Core.List.{List, []}
 use lib.Dec.{eqb}
 use borrow.Author.Tests.{ne_eqb}
+use Rattle.std.specs.Prelude.{Result, Ok, Err}
+use Rattle.call.specs.declared.refusal.Refusal.{Refusal}
 use Rattle.call.specs.Refusal.{Condition, first}
 use Rattle.table.specs.declared.Table.{Table}
 use Rattle.answer.specs.declared.outcome.Outcome.{Outcome}
 use Rattle.answer.specs.declared.reply.Reply.{Reply}
 use Rattle.answer.specs.declared.scores.Scores.{Scores}
-use Rattle.answer.specs.Outcome.{outcome}
+use Rattle.answer.specs.Outcome.{outcome, outcome_in}
+use Rattle.answer.proofs.outcome.Laws.{refused, accepted}
 use Rattle.answer.specs.Reply.{scored_reply, plain_reply}
 use Rattle.answer.specs.Scores.{scores_of}
 use Rattle.engine.specs.Scores.{deal_scores}
+
+-- the outcome of a call is the same on any table that a refusal leaves
+pub elsewhere : (conditions : List Condition) (effect t u : Table) (r : Result Table Refusal) → outcome_in t r ≡ outcome conditions effect t → outcome_in u r ≡ outcome conditions effect u
+unfolding outcome
+elsewhere conditions effect t u (Ok next) called =
+    let zero = ap (λ (x : Outcome). x.number) called in
+    accepted conditions effect u zero (ap (λ (x : Outcome). x.table) called ∙ rw (← zero))
+elsewhere conditions effect t u (Err why) called = refused conditions effect u why (ap (λ (x : Outcome). x.number) called)
 
 module _ (conditions : List Condition) (effect t : Table) {o : Outcome} (called : o ≡ outcome conditions effect t) where
   number : o.number ≡ first conditions

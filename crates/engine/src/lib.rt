@@ -40,38 +40,36 @@ use decisions::surrender::surrender;
 use draw::double::double;
 use draw::draw::draw;
 use draw::split::split;
+use state::shape::seats_shape;
 use table::Table;
 use table::whole::Whole;
 
-// Calls that may change any part of the table, each in a function of its own: put together, the room for each one's table would be cleared in every call.
+// Calls that may change any part of the table, each in a function of its own: put together, the room for each one's table would be cleared in every call. One function that takes the call as
+// a closure clears the room for a load's table, 6 % of a call replayed.
 #[inline(never)]
 fn filled(t: &Whole, next: &mut Table, n: u64) -> Answer
-    requires { next.old ≡ t.now }
-    ensures { reply_of result next.new ≡ plain_reply (outcome (fill_conditions t.now n) (fill_effect t.now n) t.now) }
+    ensures { reply_of result next.new ≡ plain_reply (outcome (fill_conditions t.now n) (fill_effect t.now n) next.old) }
 {
     changed(next, fill(t, n))
 }
 
 #[inline(never)]
 fn credited(t: &Whole, next: &mut Table, n: u64) -> Answer
-    requires { next.old ≡ t.now }
-    ensures { reply_of result next.new ≡ plain_reply (outcome (credit_conditions t.now n) (credit_effect t.now n) t.now) }
+    ensures { reply_of result next.new ≡ plain_reply (outcome (credit_conditions t.now n) (credit_effect t.now n) next.old) }
 {
     changed(next, credit(t, n))
 }
 
 #[inline(never)]
 fn voided(t: &Whole, next: &mut Table) -> Answer
-    requires { next.old ≡ t.now }
-    ensures { reply_of result next.new ≡ plain_reply (outcome (void_conditions t.now) (void_effect t.now) t.now) }
+    ensures { reply_of result next.new ≡ plain_reply (outcome (void_conditions t.now) (void_effect t.now) next.old) }
 {
     changed(next, void(t))
 }
 
 #[inline(never)]
 fn loaded(t: &Whole, next: &mut Table, order: &[u8]) -> Answer
-    requires { next.old ≡ t.now }
-    ensures { reply_of result next.new ≡ plain_reply (outcome (load_conditions t.now order.now) (load_effect t.now order.now) t.now) }
+    ensures { reply_of result next.new ≡ plain_reply (outcome (load_conditions t.now order.now) (load_effect t.now order.now) next.old) }
 {
     changed(next, load(t, order))
 }
@@ -97,6 +95,7 @@ fn played(
     requires { next.old ≡ t.now }
     ensures { given_of (reply_of result next.new) names.new nets.new ≡ given_by (step_by t.now c order.now) names.old nets.old }
 {
+    seats_shape(&next.seats);
     match c {
         Call::Fill(n) => filled(t, next, n),
         Call::Credit(n) => credited(t, next, n),
@@ -122,7 +121,7 @@ fn played(
 // A step in place on a table that is known not to be broken, as every table is that an accepted call left: it asks that.
 // A function of its own: put into the one below, its copy of the table is cleared before it is made.
 #[inline(never)]
-pub fn step_sound(
+fn step_sound(
     table: &mut Table,
     c: Call,
     order: &[u8],

@@ -69,12 +69,11 @@ pub(crate) fn split_moved(next: &mut Table, at: At, r: Result<Moved, Refusal>) -
     moved_showing(next, at, r, split_scores(r))
 }
 
-// A deal, and the scores of the hands that it leaves. The table lies in `next` too.
+// A deal, and the scores of the hands that it leaves.
 #[inline(never)]
 pub(crate) fn dealt(t: &Whole, next: &mut Table) -> Answer
-    requires { next.old ≡ t.now }
     ensures scores { scores_of result.scores ≡ cond (eqb (first (deal_conditions t.now)) 0) (deal_scores (deal_effect t.now)) [] }
-    ensures made { reply_of result next.new ≡ scored_reply (outcome (deal_conditions t.now) (deal_effect t.now) t.now) result.scores }
+    ensures made { reply_of result next.new ≡ scored_reply (outcome (deal_conditions t.now) (deal_effect t.now) next.old) result.scores }
 {
     match deal(t) {
         Ok(table) => {

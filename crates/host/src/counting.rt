@@ -8,10 +8,11 @@ ghost use Rattle.host_spec.specs.Broken.{sound_card, sound_cards, most_rounds, m
 ghost use Rattle.host_spec.specs.Close.{with_round, counted_card, counted_from};
 ghost use Rattle.host.specs.Aids.Fits.{TallyFits};
 
+use crate::places::guest_in;
 use crate::sound::MOST_ROUNDS;
 use host_spec::{GuestCard, Hosted, Tally};
 use money::seat_money::{laid, prizes};
-use state::seat::{guest_at, guest_money, seat_at};
+use state::seat::{guest_money, guest_of};
 use state::shape::table_shape;
 use table::Table;
 
@@ -44,13 +45,12 @@ fn counted_card(t: Table, after: Table, place: usize, g: GuestCard) -> GuestCard
     if MOST_ROUNDS <= g.tally.rounds {
         return g;
     }
-    let i = place / 3;
-    let p = (place % 3) as u8;
-    let s = guest_at(seat_at(t, i), p);
+    let guest = guest_in(place);
+    let s = guest_of(&t, guest);
     if s.money.stake == 0 {
         return g;
     }
-    let then = guest_money(seat_at(after, i), p);
+    let then = guest_money(&after, guest);
     let back = then.purse - s.money.purse + prizes(t.options, s);
     let mut next = g;
     next.tally = with_round(g.tally, laid(s), back);

@@ -5,12 +5,12 @@ ghost use Rattle.host_spec.specs.Cards.{place_of};
 ghost use Rattle.host_spec.specs.Leave.{leave_conditions, leave_effect};
 ghost use Rattle.host.specs.Outcome.{host_outcome, host_outcome_in};
 
-use crate::places::{find_card, no_card};
+use crate::places::{find_card, guest_in, no_card};
 use crate::sound::host_broken;
 use call::refusal::Refusal;
 use host_spec::Hosted;
 use state::round::is_dealt;
-use state::seat::{guest_money, seat_at};
+use state::seat::guest_money;
 
 // Where the card of a leaving sits, or why it is refused: 1 broken, 4 a round is dealt, 29 it is not here, 9 a stake lies there.
 fn check_leave(h: Hosted, card: u64) -> Result<usize, Refusal>
@@ -24,9 +24,7 @@ fn check_leave(h: Hosted, card: u64) -> Result<usize, Refusal>
         return Err(Refusal::RoundDealt);
     }
     let place = find_card(h.cards, card).ok_or(Refusal::NotHere)?;
-    let s = seat_at(h.table, place / 3);
-    let money = guest_money(s, (place % 3) as u8);
-    if 0 < money.stake {
+    if 0 < guest_money(&h.table, guest_in(place)).stake {
         return Err(Refusal::LaidAlready);
     }
     Ok(place)

@@ -1,7 +1,9 @@
 // The 27 places of guest cards: an empty one, one taken out, and where a card sits.
-ghost use Rattle.std.specs.Prelude.{◌≡◌, position};
+ghost use Rattle.std.specs.Prelude.{◌≡◌, ◌<◌, ◌/◌, ◌%◌, position};
 ghost use Rattle.host_spec.specs.Cards.{no_card, holds as holds_card};
 
+use call::At;
+use call::guest::Guest;
 use host_spec::{GuestCard, Tally};
 
 // A position without a card.
@@ -17,6 +19,18 @@ pub(crate) fn no_card() -> GuestCard
             returned: 0,
         },
     }
+}
+
+// The guest whose place it is.
+pub(crate) fn guest_in(place: usize) -> Guest
+    requires { place < 27 }
+    ensures seat { result.seat ≡ place / 3 }
+    ensures position { result.position ≡ place % 3 }
+{
+    Guest::new(At {
+        seat: (place / 3) as u8,
+        position: (place % 3) as u8,
+    })
 }
 
 // That card sits there.

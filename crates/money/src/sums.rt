@@ -82,6 +82,7 @@ pub fn guest_sums(o: Options, s: Seat) -> Sums
 }
 
 // The sums of two groups of guests together. Public for passes over the 27 alone: so it asks that both are sums of at most 27.
+// Here and below `SumsFit` is asked for by number: each adds to the sums of as many guests as there can be before it, another number each, which a type would have to hold and each would ask for again.
 pub fn plus(a: Sums, b: Sums) -> Sums
     requires left { SumsFit 27 a }
     requires right { SumsFit 27 b }

@@ -10,6 +10,7 @@ use cards::card::is_ace;
 use options::Options;
 
 impl HandInSeat {
+    // Even and five each by the rule of its own article: one function of both would take a code that says which.
     #[tactic(auto, unfolding(crate::specs::Leaving::permits_even))]
     pub fn permits_even(self, o: Options) -> bool
         ensures { result ≡ permits_even o self.up self.many (played_of self.hand) }

@@ -1,20 +1,22 @@
 // A seat taken out of the table and put back; a guest of it taken out and put back (request 2.8), and who decides for it.
-ghost use Rattle.std.specs.Prelude.{◌≡◌, ◌<◌, eqb, get_or};
+ghost use Rattle.std.specs.Prelude.{◌≡◌, eqb, get_or};
 ghost use Rattle.lists.specs.Below.{all_below};
 ghost use Rattle.table.specs.Guest.{is_nobody, nobody_in};
-ghost use Rattle.table.specs.Seat.{guest_at, with_guest, decider as decider_of};
-ghost use Rattle.table.specs.Table.{seat_at, with_seat};
+ghost use Rattle.table.specs.Seat.{with_guest, decider as decider_of};
+ghost use Rattle.table.specs.Table.{seat_at, guest_of, with_seat};
 
+use crate::shape::seats_shape;
+use call::guest::Guest;
 use options::Options;
 use options::decider::deciding_position;
 use table::{Money, Seat, Table};
 
-// The seat of that number.
-pub fn seat_at(t: Table, i: usize) -> Seat
-    requires { i < 9 }
-    ensures { result ≡ seat_at t i }
+// The seat of a guest.
+pub fn guest_seat(t: &Table, g: Guest) -> &Seat
+    ensures { result.now ≡ seat_at t.now g.seat }
 {
-    t.seats[i]
+    seats_shape(&t.seats);
+    &t.seats[g.seat()]
 }
 
 // The table with that seat in place i; the table itself where it has no such place.
@@ -29,27 +31,26 @@ pub fn with_seat(t: Table, i: usize, s: Seat) -> Table
     next
 }
 
-// The money of the guest in that position. It asks for one of the three.
+// The money of a guest.
 #[tactic(auto, unfolding(table::specs::Seat::guest_at))]
-pub fn guest_money(s: Seat, p: u8) -> Money
-    requires { p < 3 }
-    ensures { result ≡ (guest_at s p).money }
+pub fn guest_money(t: &Table, g: Guest) -> &Money
+    ensures { result.now ≡ (guest_of t.now g.seat g.position).money }
 {
-    match p {
-        0 => s.money,
-        1 => s.others[0],
-        _ => s.others[1],
+    let s = guest_seat(t, g);
+    match g.position() {
+        0 => &s.money,
+        1 => &s.others[0],
+        _ => &s.others[1],
     }
 }
 
-// The seat as that of the guest in that position, as if alone there. It asks for one of the three.
-pub fn guest_at(s: Seat, p: u8) -> Seat
-    requires { p < 3 }
-    ensures { result ≡ guest_at s p }
+// The seat of a guest as that guest's, as if alone there.
+pub fn guest_of(t: &Table, g: Guest) -> Seat
+    ensures { result ≡ guest_of t.now g.seat g.position }
 {
     Seat {
-        money: guest_money(s, p),
-        ..s
+        money: *guest_money(t, g),
+        ..*guest_seat(t, g)
     }
 }
 

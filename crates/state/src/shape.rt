@@ -32,6 +32,11 @@ pub fn seats_shape(seats: &[Seat; 9])
     ensures { length seats.now ≡ 9 }
 {}
 
+// Of the four places where a seat is.
+pub fn places_shape(places: &[SeatHand; 4])
+    ensures { length places.now ≡ 4 }
+{}
+
 pub fn table_shape(t: Table)
     ensures { Shaped t }
 {

@@ -1,10 +1,9 @@
 // A table that is not broken (docs/BROKEN.md): what every call reads behind number 1. Clauses see the table itself.
-ghost use Rattle.std.specs.Prelude.{◌≡◌, false, ◌<◌, length};
+ghost use Rattle.std.specs.Prelude.{◌≡◌, false, length};
 ghost use Rattle.table.specs.declared.Table.{Table};
-ghost use Rattle.table.specs.Table.{seat_at};
 ghost use Rattle.table.specs.Broken.{broken};
 
-use crate::{Seat, Table};
+use crate::Table;
 use std::marker::Model;
 
 #[derive(Clone, Copy)]
@@ -38,13 +37,5 @@ impl Whole {
         ensures nine { length self.now.seats ≡ 9 }
     {
         &self.table
-    }
-
-    // The seat of that number. For a call that knows its seat to be one of the nine: so it asks that.
-    pub fn seat(&self, j: u8) -> &Seat
-        requires { j < 9 }
-        ensures { result.now ≡ seat_at self.now j }
-    {
-        &self.table.seats[usize::from(j)]
     }
 }

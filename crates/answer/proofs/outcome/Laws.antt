@@ -14,7 +14,7 @@ use Rattle.answer.specs.Moved.{moved_outcome}
 use Rattle.answer.specs.Outcome.{make_outcome, outcome, outcome_in}
 
 module _ (conditions : List Condition) (effect t : Table) where
-  refused : (why : Refusal) → number_of why ≡ first conditions → make_outcome (number_of why) t ≡ outcome conditions effect t
+  pub refused : (why : Refusal) → number_of why ≡ first conditions → make_outcome (number_of why) t ≡ outcome conditions effect t
   unfolding outcome
   refused why e = rw (← e, ne_eqb (number_of why) 0 (refusal_some why))
 

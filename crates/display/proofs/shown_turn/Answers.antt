@@ -21,9 +21,6 @@ returns-then-seat-ge9 c =
     )
     c.nobody-then-seat-ge9.ensures
 
-pub seat_at-requires : goal.seat_at-requires
-seat_at-requires c = search (rules, c.if-seat-ge9.false)
-
 pub returns : goal.returns
 unfolding turn_shown
 returns c =
@@ -32,7 +29,6 @@ returns c =
       sym c.broken.ensures ∙ c.if-broken.false,
       waits_below c.args.t full _ c.seat_in_turn-seat.ensures ∙ lt-ltb _ _ c.if-seat-ge9.false,
       c.decider.ensures,
-      c.seat_at.ensures,
       c.seat_in_turn-seat.ensures,
       c.place_in_turn.ensures,
     )

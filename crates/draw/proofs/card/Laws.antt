@@ -23,7 +23,9 @@ use Rattle.answer.specs.Moved.{make_moved, moved_table}
 use Rattle.decisions_spec.specs.Card.{card_ahead, card_money, card_effect}
 use Rattle.decisions_spec.specs.Turn.{waiting_place_of, waiting_hand_of}
 use Rattle.decisions_spec.proofs.Turn.{TurnAccepted}
-use Rattle.decisions.proofs.turn.Laws.{in_turn_lem}
+use Rattle.call.specs.declared.At.{At}
+use Rattle.decisions.specs.declared.turn.HandInTurn.{HandInTurn}
+use Rattle.decisions.specs.InTurn.{InTurn}
 use Rattle.draw.specs.Aids.Grown.{grown_by, grown_seat}
 use Rattle.draw.specs.Aids.Drawable.{one_prize_each, Drawable}
 
@@ -49,25 +51,27 @@ pub seat_is : (o : Options) (times : ℕ) (s : Seat) (h : SeatHand) (p : ℕ) {s
     → r ≡ grown_seat o p s h times
 seat_is o times s h p stored is-seated are-others = rw (stored, is-seated, are-others)
 
-module _ (t : Table) (j times : ℕ) where
-  pub drawable : length t.seats ≡ 9 → TurnAccepted t j → times ≤ 1 → ((p : ℕ) → p < 3 → times * stake (guest_of t j p) ≤ purse (guest_of t j p)) → 1 ≤ cards_left t → Drawable t j times
-  drawable full a few enough left =
-      let act = a.acting in
-      let sound = unbroken t act.unbroken in
-      let covers = tray_covers t full sound act.dealt j act.nine in
-      let within = sum_has (over_guests purse) t.seats j missing_seat (omega (arith, act.nine)) in
-      record {
-        turn = in_turn_lem t j a;
-        guests = λ p h. record {
-          few = few;
-          purse_has = enough p h;
-          purse_fits = omega (arith, sound.money, within, covers, over_has purse (seat_at t j) p h, over_has (λ g. most_prize (stake g)) (seat_at t j) p h);
-        };
-        tray_has = covers;
-        tray_fits = omega (arith, sound.money);
-        card_left = omega (arith, decks_416 t sound);
-      }
+pub drawable : (t : Table) (at : At) (h : HandInTurn) (times : ℕ) → h.guest ≡ at → InTurn t h → length t.seats ≡ 9 → TurnAccepted t at.seat → times ≤ 1
+    → ((p : ℕ) → p < 3 → times * stake (guest_of t at.seat p) ≤ purse (guest_of t at.seat p)) → 1 ≤ cards_left t → Drawable t h times
+drawable t at h times is turn full a few enough left =
+    let j = at.seat in
+    let act = a.acting in
+    let sound = unbroken t act.unbroken in
+    let covers = tray_covers t full sound act.dealt j act.nine in
+    let within = sum_has (over_guests purse) t.seats j missing_seat (omega (arith, act.nine)) in
+    record {
+      turn = turn;
+      guests = rw is (λ p inside. record {
+        few = few;
+        purse_has = enough p inside;
+        purse_fits = omega (arith, sound.money, within, covers, over_has purse (seat_at t j) p inside, over_has (λ g. most_prize (stake g)) (seat_at t j) p inside);
+      });
+      tray_has = rw is covers;
+      tray_fits = omega (arith, sound.money);
+      card_left = omega (arith, decks_416 t sound);
+    }
 
+module _ (t : Table) (j times : ℕ) where
   pub next_is : (code hand : ℕ) {u : Table} {p ahead won : ℕ} {s seat : Seat} {h waiting : SeatHand}
       → u ≡ t
       → seat ≡ grown_seat u.options p s h times

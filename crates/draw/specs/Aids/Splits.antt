@@ -7,7 +7,8 @@ use Rattle.table.specs.declared.Table.{Table}
 use Rattle.table.specs.Seat.{make_seat, guest_at, map_guests, purse, stake}
 use Rattle.table.specs.Table.{seat_at}
 use Rattle.decisions_spec.specs.Split.{split_hand, split_places, split_first, staked_again}
-use Rattle.decisions.specs.Aids.InTurn.{InTurn}
+use Rattle.decisions.specs.declared.turn.HandInTurn.{HandInTurn}
+use Rattle.decisions.specs.InTurn.{InTurn}
 
 -- The seat with that hand h at p split: a stake less in each purse, a hand more.
 unfoldable pub two_for : Seat → ℕ → SeatHand → ℕ → ℕ → Seat
@@ -22,8 +23,8 @@ pub record Pays (s : Seat) : Type 0 where
   pub room : s.hands.many ≤ 4
   pub enough : (p : ℕ) → p < 3 → stake (guest_at s p) ≤ purse (guest_at s p)
 
--- The seat's turn has come, its seat pays, and the order has two cards more.
-pub record Splits (t : Table) (j : ℕ) : Type 0 where
-  pub turn : InTurn t j
-  pub pays : Pays (seat_at t j)
+-- The hand is the one whose turn it is, its seat pays, and the order has two cards more.
+pub record Splits (t : Table) (h : HandInTurn) : Type 0 where
+  pub turn : InTurn t h
+  pub pays : Pays (seat_at t h.guest.seat)
   pub two_left : t.shoe.drawn + 2 ≤ 416

@@ -65,11 +65,11 @@ module _ (t : Table) (order names : List ℕ) (nets : List ℤ) {c d : Call} (is
 
 pub returns-in-Fill : goal.returns-in-Fill
 unfolding step
-returns-in-Fill c = plain-arm _ _ _ _ c.in-Fill.is _ _ c.filled.ensures refl refl
+returns-in-Fill c = plain-arm _ _ _ _ c.in-Fill.is _ _ (rw c.requires at c.filled.ensures) refl refl
 
 pub returns-in-Credit : goal.returns-in-Credit
 unfolding step
-returns-in-Credit c = plain-arm _ _ _ _ c.in-Credit.is _ _ c.credited.ensures refl refl
+returns-in-Credit c = plain-arm _ _ _ _ c.in-Credit.is _ _ (rw c.requires at c.credited.ensures) refl refl
 
 pub returns-in-Buy : goal.returns-in-Buy
 unfolding step
@@ -105,32 +105,32 @@ returns-in-Five c = plain-arm _ _ _ _ c.in-Five.is _ _ (rw c.requires at c.moved
 
 pub returns-in-Void : goal.returns-in-Void
 unfolding step
-returns-in-Void c = plain-arm _ _ _ _ c.in-Void.is _ _ c.voided.ensures refl refl
+returns-in-Void c = plain-arm _ _ _ _ c.in-Void.is _ _ (rw c.requires at c.voided.ensures) refl refl
 
 pub returns-in-Load : goal.returns-in-Load
 unfolding step
-returns-in-Load c = plain-arm _ _ _ _ c.in-Load.is _ _ c.loaded.ensures refl refl
+returns-in-Load c = plain-arm _ _ _ _ c.in-Load.is _ _ (rw c.requires at c.loaded.ensures) refl refl
 
 pub returns-in-Draw : goal.returns-in-Draw
 unfolding step
 returns-in-Draw c =
     let r = c.card_moved.ensures in
     shown-arm _ _ _ _ c.in-Draw.is _ _ _ _ _ (rw c.requires at r.made) c.draw.ensures.same
-    (r.told ∙ card_shown_lem _ _ _ _ c.draw.ensures.nine _ c.draw.ensures.same c.draw.ensures.shown) refl
+    (r.told ∙ card_shown_lem _ _ _ _ (rw c.requires at c.seats_shape.ensures) _ c.draw.ensures.same c.draw.ensures.told) refl
 
 pub returns-in-Double : goal.returns-in-Double
 unfolding step
 returns-in-Double c =
     let r = c.card_moved-in-Double.ensures in
     shown-arm _ _ _ _ c.in-Double.is _ _ _ _ _ (rw c.requires at r.made) c.double.ensures.same
-    (r.told ∙ card_shown_lem _ _ _ _ c.double.ensures.nine _ c.double.ensures.same c.double.ensures.shown) refl
+    (r.told ∙ card_shown_lem _ _ _ _ (rw c.requires at c.seats_shape.ensures) _ c.double.ensures.same c.double.ensures.told) refl
 
 pub returns-in-Split : goal.returns-in-Split
 unfolding step
 returns-in-Split c =
     let r = c.split_moved.ensures in
     shown-arm _ _ _ _ c.in-Split.is _ _ _ _ _ (rw c.requires at r.made) c.split.ensures.same
-    (r.told ∙ split-shown _ _ _ _ c.split.ensures.nine _ c.split.ensures.same c.split.ensures.shown) refl
+    (r.told ∙ split-shown _ _ _ _ (rw c.requires at c.seats_shape.ensures) _ c.split.ensures.same c.split.ensures.told) refl
 
 pub returns-in-Side : goal.returns-in-Side
 returns-in-Side c = plain-arm _ _ _ _ c.in-Side.is _ _ (rw c.requires at c.moved-in-Side.ensures) c.side.ensures (side-step _ _ _ _ _)
@@ -140,7 +140,7 @@ unfolding step
 returns-in-Deal c =
     let t = c.args.t.now in
     given t c.args.order.now c.args.names.now c.args.nets.now c.in-Deal.is
-    (plain c.args.names.now c.args.nets.now (deal_conditions t) (deal_effect t) t (deal_scores (deal_effect t)) c.dealt.result.scores _ c.dealt.ensures.scores c.dealt.ensures.made)
+    (plain c.args.names.now c.args.nets.now (deal_conditions t) (deal_effect t) t (deal_scores (deal_effect t)) c.dealt.result.scores _ c.dealt.ensures.scores (rw c.requires at c.dealt.ensures.made))
 
 pub returns-in-Close : goal.returns-in-Close
 unfolding step

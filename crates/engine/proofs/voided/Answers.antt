@@ -1,7 +1,8 @@
--- The call's outcome is put in the place of the table.
+-- The call's outcome is put in the place of the table, whatever stood there.
 use mathlib.Core.Path.{◌∙◌, ap}
 use Rattle.answer.specs.Reply.{plain_reply}
+use Rattle.engine.proofs.ShownDeal.{elsewhere}
 use Rattle.engine.proofs.voided.Goals as goal
 
 pub returns : goal.returns
-returns c = (rw c.requires at c.changed.ensures) ∙ ap plain_reply c.void.ensures
+returns c = c.changed.ensures ∙ ap plain_reply (elsewhere _ _ _ _ _ c.void.ensures)

@@ -2,18 +2,14 @@
 use mathlib.Core.Path.{◌≡◌, refl, ◌∙◌, ap, ap₂}
 use mathlib.Core.Bool.{Bool, false, not}
 use mathlib.Core.List.{List, [], ◌∷◌, ◌++◌}
-use Prim.Native.Nat.{ℕ, ◌<◌}
+use Prim.Native.Nat.{ℕ}
 use lib.Dec.{ltb}
-use borrow.Author.Tests.{leb-false}
-use Rattle.lists.specs.Tests.{all_of}
 use Rattle.lists.proofs.Tests.{or_eq_false}
 use Rattle.call.specs.Refusal.{Condition, asked, first}
-use Rattle.call.proofs.Refusals.{none_hold}
 use Rattle.table.specs.declared.Money.{Money}
 use Rattle.table.specs.Seat.{is_staked}
 use Rattle.table.specs.Table.{guest_of}
 use Rattle.table.specs.Broken.{broken}
-use Rattle.table.proofs.Facts.{seat_of-nine}
 use Rattle.answer.specs.Conditions.{between_rounds, seat_conditions, guest_conditions}
 use Rattle.host_spec.specs.declared.Hosted.{Hosted}
 use Rattle.host_spec.specs.Cards.{is_here, card_at, sits_here}
@@ -38,10 +34,3 @@ unfolding first
 taken_is h j p card there m found money here =
     here
     ∙ ap (asked 28 (is_here (card_at h j p))) (ap₂ (asked 28) found (ap (λ (x : Money). asked 9 (ltb 0 x.stake) 0) money))
-
--- where nothing of it holds, the seat is one of the nine, the position one of the three
-pub arrive_inside : (h : Hosted) (j p card : ℕ) → first (arrive_conditions h j p card) ≡ 0 → (j < 9) × (p < 3)
-unfolding arrive_conditions all_of
-arrive_inside h j p card e =
-    let (whole, (between, (such-seat, (such-position, _)))) = none_hold (arrive_conditions h j p card) refl e in
-    (seat_of-nine h.table j (whole_table h whole) such-seat, leb-false 3 p such-position)

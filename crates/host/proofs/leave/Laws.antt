@@ -26,6 +26,10 @@ pub left_inside : (h : Hosted) (card : ℕ) → length h.cards ≡ 27 → first 
 unfolding leave_conditions all_of
 left_inside h card long e = let (whole, (between, (sits, _))) = none_hold (leave_conditions h card) refl e in place-within h card long (not-false (sits_here h card) sits)
 
+-- a place that is found is one of the 27
+pub found_inside : (h : Hosted) (card : ℕ) {k : ℕ} → length h.cards ≡ 27 → (place_of h card ≡ k) × (sits_here h card ≡ true) → k < 27
+found_inside h card long (same, sits) = omega (arith, place-within h card long sits)
+
 -- as the search for its place finds it, or does not
 module _ (h : Hosted) (card : ℕ) where
   pub place-found : (k : ℕ) → position (holds card) h.cards ≡ Some k → (place_of h card ≡ k) × (sits_here h card ≡ true)

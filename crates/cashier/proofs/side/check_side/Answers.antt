@@ -1,5 +1,5 @@
 -- The conditions are asked in the order of the list: those of every call of a seat first, then what names the side stake.
-use mathlib.Core.Path.{◌≡◌, refl, sym, ◌∙◌, ap}
+use mathlib.Core.Path.{◌≡◌, refl, sym, ◌∙◌}
 use mathlib.Core.Bool.{not}
 use mathlib.Core.List.{List, [], ◌∷◌, ◌++◌}
 use Prim.Native.Nat.{ℕ}
@@ -9,19 +9,15 @@ use Rattle.std.specs.Result.{IsErrAnd}
 use Rattle.lists.specs.Tests.{all_of}
 use Rattle.call.specs.declared.refusal.Refusal.{Refusal}
 use Rattle.call.specs.Refusal.{Condition, number_of, number_in, first}
-use Rattle.call.proofs.Refusals.{first-behind, none_hold}
+use Rattle.call.proofs.Refusals.{residual, first-behind, none_hold, and_number}
 use Rattle.table.specs.declared.Table.{Table}
 use Rattle.answer.specs.Conditions.{between_rounds, seat_conditions, no_position}
-use Rattle.answer.proofs.conditions.Laws.{between-seat, refuses, seat-passes, seat-nine}
+use Rattle.answer.proofs.conditions.Laws.{refuses, refused-check, handed-on, seat-passes, seat-nine}
 use Rattle.cashier_spec.specs.Side.{is_side_kind, side_conditions}
-use Rattle.cashier.proofs.side.check_side.Goals.{In_ok-check_seat, In_ok-first_refusal}
+use Rattle.cashier.proofs.side.check_side.Goals.{In_ok-first_refusal}
 use Rattle.cashier.proofs.side.check_side.Goals as goal
 
--- the conditions of every call of a seat: none holds
-early : (c : In_ok-check_seat) → 0 ≡ first (seat_conditions (between_rounds c.args.t.now) c.args.t.now c.args.at.seat)
-early c = between-seat c.table-table.ensures.same c.table-table.ensures.whole _ c.is_dealt.ensures c.in_ok-check_seat.ensures
-
--- then those of what names the side stake, its kind and its position
+-- what names the side stake, its kind and its position
 abbrev naming : ℕ → ℕ → List Condition
 naming kind p = (21, not (is_side_kind kind)) ∷ no_position p ∷ []
 
@@ -42,22 +38,25 @@ module _ (t : Table) (j kind p : ℕ) (none : 0 ≡ first (seat_conditions (betw
 
 pub returns-in_err-check_seat : goal.returns-in_err-check_seat
 unfolding side_conditions
-returns-in_err-check_seat c =
-    refuses _ _ _ c.from_residual.ensures.1 (between-seat c.table-table.ensures.same c.table-table.ensures.whole _ c.is_dealt.ensures c.in_err-check_seat.ensures) _
+returns-in_err-check_seat c = refused-check _ _ _ c.from_residual.ensures.1 c.in_err-check_seat.ensures _
 
 pub returns-in_err-first_refusal : goal.returns-in_err-first_refusal
 unfolding side_conditions first
 returns-in_err-first_refusal c =
-    naming-refuses _ _ _ _ (early (goal.at.returns-in_err-first_refusal c).In_ok-check_seat) _ _ c.from_residual-in_err-first_refusal.ensures.1
-    (simp c.is_side_kind.ensures at c.in_err-first_refusal.ensures) _
+    record {
+      number =
+          naming-refuses _ _ _ _ c.in_ok-check_seat.ensures _ _ c.from_residual-in_err-first_refusal.ensures.1
+          (simp c.is_side_kind.ensures at c.in_err-first_refusal.ensures) _;
+      guest = rw (residual _ c.from_residual-in_err-first_refusal.ensures.1) tt;
+    }
 
-pub seat-requires : goal.seat-requires
-seat-requires c = seat-nine _ _ _ refl (early (goal.at.seat-requires c).In_ok-check_seat)
+pub new-guest-requires-clause-seat : goal.new-guest-requires-clause-seat
+new-guest-requires-clause-seat c = seat-nine _ _ _ refl c.in_ok-check_seat.ensures
 
-pub guest_money-money-requires : goal.guest_money-money-requires
+pub new-guest-requires-clause-position : goal.new-guest-requires-clause-position
 unfolding all_of
-guest_money-money-requires c =
-    let call = (goal.at.guest_money-money-requires c).In_ok-first_refusal in
+new-guest-requires-clause-position c =
+    let call = (goal.at.new-guest-requires-clause-position c).In_ok-first_refusal in
     let (_, (position, _)) = none_hold (naming c.args.kind c.args.at.position) refl (sym (named call)) in
     leb-false 3 _ position
 
@@ -65,11 +64,17 @@ pub returns : goal.returns
 unfolding side_conditions first
 returns c =
     let at = goal.at.returns c in
-    (simp (
-      c.first_refusal-2.ensures,
-      c.side_permitted.ensures,
-      c.side_of.ensures,
-      c.guest_money-money.ensures,
-      c.seat.ensures,
-    ))
-    ∙ sym (both-pass _ _ _ _ (early at.In_ok-check_seat) (named at.In_ok-first_refusal) _)
+    rw c.and.ensures (record {
+      number =
+          and_number c.first_refusal-2.result c.new-guest.result
+          ∙ (simp (
+            c.first_refusal-2.ensures,
+            c.side_permitted.ensures,
+            c.side_of.ensures,
+            c.guest_money-money.ensures,
+            c.table.ensures.same,
+            c.new-guest.ensures,
+          ))
+          ∙ sym (both-pass _ _ _ _ c.in_ok-check_seat.ensures (named at.In_ok-first_refusal) _);
+      guest = handed-on _ _ _ c.new-guest.ensures;
+    })

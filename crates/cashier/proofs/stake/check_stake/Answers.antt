@@ -1,30 +1,23 @@
 -- The conditions are asked in the order of the list: those of every call of a guest first.
-use mathlib.Core.Path.{◌≡◌, refl, sym, ◌∙◌}
+use mathlib.Core.Path.{refl}
 use Rattle.call.specs.Refusal.{first}
-use Rattle.answer.proofs.conditions.Laws.{between-guest, refuses, guest-passes, guest-nine, guest_three}
+use Rattle.answer.proofs.conditions.Laws.{refused-check, behind-guest}
 use Rattle.cashier_spec.specs.Stake.{stake_conditions}
 use Rattle.cashier.proofs.stake.check_stake.Goals as goal
 
-pub returns-in_err-check_guest : goal.returns-in_err-check_guest
+pub returns-in_err-guest : goal.returns-in_err-guest
 unfolding stake_conditions
-returns-in_err-check_guest c =
-    refuses _ _ _ c.from_residual.ensures.1 (between-guest c.table-table.ensures.same c.table-table.ensures.whole _ c.is_dealt.ensures _ c.in_err-check_guest.ensures) _
-
-pub seat-s-requires : goal.seat-s-requires
-seat-s-requires c = guest-nine _ _ _ _ refl (between-guest c.table-table.ensures.same c.table-table.ensures.whole _ c.is_dealt.ensures _ c.in_ok-check_guest.ensures)
-
-pub guest_money-money-requires : goal.guest_money-money-requires
-guest_money-money-requires c = guest_three _ _ _ _ refl (between-guest c.table-table.ensures.same c.table-table.ensures.whole _ c.is_dealt.ensures _ c.in_ok-check_guest.ensures)
+returns-in_err-guest c = refused-check _ _ _ c.from_residual.ensures.1 c.in_err-guest.ensures.number _
 
 pub returns : goal.returns
 unfolding stake_conditions first
 returns c =
-    (simp (
+    rw c.and.ensures (behind-guest _ _ _ _ refl c.in_ok-guest.ensures.number c.in_ok-guest.ensures.guest _ _ (simp (
       c.first_refusal.ensures,
       c.stake_permitted.ensures,
       c.before_seated.ensures,
       c.guest_money-money.ensures,
-      c.seat-s.ensures,
-      c.table-table.ensures.same,
-    ))
-    ∙ sym (guest-passes _ _ _ _ refl (between-guest c.table-table.ensures.same c.table-table.ensures.whole _ c.is_dealt.ensures _ c.in_ok-check_guest.ensures) _)
+      c.guest_seat.ensures,
+      c.table-t.ensures.same,
+      c.in_ok-guest.ensures.guest,
+    )))

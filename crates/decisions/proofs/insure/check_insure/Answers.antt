@@ -1,31 +1,24 @@
 -- The conditions are asked in the order of the list: those of every call of a guest first.
-use mathlib.Core.Path.{◌≡◌, refl, sym, ◌∙◌}
+use mathlib.Core.Path.{refl}
 use Rattle.call.specs.Refusal.{first}
-use Rattle.answer.proofs.conditions.Laws.{in_round-guest, refuses, guest-passes, guest-nine, guest_three}
+use Rattle.answer.proofs.conditions.Laws.{refused-check, behind-guest}
 use Rattle.decisions_spec.specs.Insure.{insure_conditions}
 use Rattle.decisions.proofs.insure.check_insure.Goals as goal
 
-pub returns-in_err-check_guest : goal.returns-in_err-check_guest
+pub returns-in_err-guest : goal.returns-in_err-guest
 unfolding insure_conditions
-returns-in_err-check_guest c = refuses _ _ _ c.from_residual.ensures.1 (in_round-guest c.table-table.ensures.same c.table-table.ensures.whole _ c.is_dealt.ensures _ c.in_err-check_guest.ensures) _
-
-pub seat-requires : goal.seat-requires
-seat-requires c = guest-nine _ _ _ _ refl (in_round-guest c.table-table.ensures.same c.table-table.ensures.whole _ c.is_dealt.ensures _ c.in_ok-check_guest.ensures)
-
-pub guest_money-money-requires : goal.guest_money-money-requires
-guest_money-money-requires c = guest_three _ _ _ _ refl (in_round-guest c.table-table.ensures.same c.table-table.ensures.whole _ c.is_dealt.ensures _ c.in_ok-check_guest.ensures)
+returns-in_err-guest c = refused-check _ _ _ c.from_residual.ensures.1 c.in_err-guest.ensures.number _
 
 pub returns : goal.returns
 unfolding insure_conditions first
 returns c =
-    (simp (
+    rw c.and.ensures (behind-guest _ _ _ _ refl c.in_ok-guest.ensures.number c.in_ok-guest.ensures.guest _ _ (simp (
       c.first_refusal.ensures,
       c.is_ace.ensures,
       c.up.ensures,
       c.any_decided.ensures,
       c.insurance_permitted-permitted.ensures,
       c.guest_money-money.ensures,
-      c.seat.ensures,
-      c.table-table.ensures.same,
-    ))
-    ∙ sym (guest-passes _ _ _ _ refl (in_round-guest c.table-table.ensures.same c.table-table.ensures.whole _ c.is_dealt.ensures _ c.in_ok-check_guest.ensures) _)
+      c.table-t.ensures.same,
+      c.in_ok-guest.ensures.guest,
+    )))

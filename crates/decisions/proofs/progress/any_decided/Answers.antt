@@ -1,8 +1,7 @@
 -- Somebody has drawn, or else the nine seats are asked for a hand that has ended.
-use Rattle.std.proofs.Common.{◌≡◌, ◌∙◌, sym, ap, length, rules, tests, true, false, Bool}
+use Rattle.std.proofs.Common.{rules, tests}
 use Rattle.std.proofs.lemmas.Iterator.{YieldsList-from_slice}
 use Rattle.std.proofs.lemmas.Iterator.Search.{any_from_yields_List}
-use mathlib.Core.Bool.{◌||◌}
 use lib.Dec.{ltb}
 use Rattle.lists.specs.Tests.{any_of}
 use Rattle.lists.proofs.Chains.{any_of-list_any}

@@ -1,5 +1,5 @@
 -- The nine seats are asked in their order.
-use Rattle.std.proofs.Common.{◌≡◌, ◌∙◌, sym, length, rules, tests}
+use Rattle.std.proofs.Common.{rules, tests}
 use Rattle.std.proofs.lemmas.Iterator.{YieldsList-from_slice}
 use Rattle.std.proofs.lemmas.Iterator.Search.{any_from_yields_List}
 use Rattle.lists.proofs.Chains.{any_of-list_any}

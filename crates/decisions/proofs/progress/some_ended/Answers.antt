@@ -1,12 +1,11 @@
 -- The hands in use are asked in their order.
-use Rattle.std.proofs.Common.{◌≡◌, ◌∙◌, sym, take, length, rules, tests}
+use Rattle.std.proofs.Common.{take, rules, tests}
 use Rattle.std.proofs.lemmas.Iterator.{YieldsList-from_slice}
 use Rattle.std.proofs.lemmas.Iterator.Search.{any_from_yields_List}
 use lib.Dec.{ltb}
 use Rattle.lists.proofs.Chains.{any_of-list_any}
 use Rattle.lists.proofs.Parts.{any_map}
 use Rattle.rules.specs.declared.seat_hand.SeatHand.{SeatHand}
-use Rattle.rules.specs.SeatHand.{played_of}
 use Rattle.decisions.proofs.progress.some_ended.Goals as goal
 
 pub returns : goal.returns

@@ -1,22 +1,59 @@
--- The seat, the options and the up card are the table's.
-use mathlib.Core.Path.{◌≡◌, ◌∙◌, ap}
-use Rattle.decisions.proofs.turn.Laws.{read_waits}
+-- The conditions are asked in the order of the list: those of every call of a guest first. Where none holds a hand of the seat waits.
+use mathlib.Core.Path.{◌≡◌, refl, sym, ◌∙◌, ap}
+use Rattle.call.specs.Refusal.{number_in, first}
+use Rattle.call.proofs.Refusals.{residual}
+use Rattle.answer.proofs.conditions.Laws.{guest-passes}
+use Rattle.decisions_spec.specs.Turn.{turn_conditions}
+use Rattle.decisions.proofs.turn.Laws.{refused_turn, turn_waits}
+use Rattle.decisions.proofs.turn.hand_in_turn.Goals.{In_ok-first_refusal}
 use Rattle.decisions.proofs.turn.hand_in_turn.Goals as goal
 
-pub seat-s-requires : goal.seat-s-requires
-seat-s-requires c = c.requires.nine
+-- none of them holds
+passed : (c : In_ok-first_refusal) → 0 ≡ first (turn_conditions c.args.t.now c.args.at.seat c.args.at.position)
+unfolding turn_conditions first
+passed c =
+    c.in_ok-first_refusal.ensures
+    ∙ (simp (
+      c.decider.ensures,
+      c.seat.ensures.same,
+      c.seat_in_turn.ensures,
+      c.guest_money-money.ensures,
+      c.guest_seat.ensures,
+      c.table-t.ensures.same,
+      c.in_ok-guest.ensures.guest,
+    ))
+    ∙ sym (guest-passes _ _ _ _ refl c.in_ok-guest.ensures.number _)
+
+pub returns-in_err-guest : goal.returns-in_err-guest
+unfolding turn_conditions
+returns-in_err-guest c = refused_turn _ _ _ c.from_residual.ensures.1 c.in_err-guest.ensures.number _
+
+pub returns-in_err-first_refusal : goal.returns-in_err-first_refusal
+unfolding turn_conditions first
+returns-in_err-first_refusal c =
+    record {
+      number =
+          ap number_in (residual _ c.from_residual-in_err-first_refusal.ensures.1)
+          ∙ c.in_err-first_refusal.ensures
+          ∙ (simp (
+            c.decider.ensures,
+            c.seat.ensures.same,
+            c.seat_in_turn.ensures,
+            c.guest_money-money.ensures,
+            c.guest_seat.ensures,
+            c.table-t.ensures.same,
+            c.in_ok-guest.ensures.guest,
+          ))
+          ∙ sym (guest-passes _ _ _ _ refl c.in_ok-guest.ensures.number _);
+      hand = rw (residual _ c.from_residual-in_err-first_refusal.ensures.1) tt;
+    }
 
 pub waiting_hand-requires : goal.waiting_hand-requires
-waiting_hand-requires c = rw c.table-t.ensures.same (read_waits c.args.t.now c.args.at.seat _ _ c.requires (rw c.table-t.ensures.same at c.up.ensures) c.seat-s.ensures)
+waiting_hand-requires c = rw (c.table-t.ensures.same, c.in_ok-guest.ensures.guest) (turn_waits _ _ _ (passed (goal.at.waiting_hand-requires c).In_ok-first_refusal))
 
-pub returns-clause-up : goal.returns-clause-up
-returns-clause-up c = rw (c.waiting_hand.ensures.up, c.up.ensures, c.table-t.ensures.same)
-
-pub returns-clause-many : goal.returns-clause-many
-returns-clause-many c = rw (c.waiting_hand.ensures.many, c.seat-s.ensures)
-
-pub returns-clause-place : goal.returns-clause-place
-returns-clause-place c = simp (c.waiting_hand.ensures.place, c.up.ensures, c.table-t.ensures.same, c.seat-s.ensures)
-
-pub returns-clause-hand : goal.returns-clause-hand
-returns-clause-hand c = simp (c.waiting_hand.ensures.hand, c.up.ensures, c.table-t.ensures.same, c.seat-s.ensures)
+pub returns : goal.returns
+returns c =
+    record {
+      number = passed (goal.at.returns c).In_ok-first_refusal;
+      hand = (c.waiting_hand.ensures.same ∙ c.in_ok-guest.ensures.guest, rw c.table-t.ensures.same at c.waiting_hand.ensures.turn);
+    }

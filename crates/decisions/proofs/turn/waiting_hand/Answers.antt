@@ -1,32 +1,28 @@
 -- Some hand waits, so the first waiting place is one of the four.
-use mathlib.Core.Path.{◌≡◌, sym, ◌∙◌, ap}
+use mathlib.Core.Path.{sym, ◌∙◌}
 use native.Mathlib.Omega.{arith}
-use lib.ListN.{length}
-use borrow.Author.Rules.{rules}
+use Prim.Native.Nat.{◌<◌}
 use Rattle.rules.proofs.seat_hand.Places.{many_hands}
-use Rattle.decisions_spec.specs.Place.{place_of}
 use Rattle.decisions.proofs.turn.Laws.{place_of-four}
+use Rattle.decisions.proofs.turn.waiting_hand.Goals.{After-waiting_place-place}
 use Rattle.decisions.proofs.turn.waiting_hand.Goals as goal
 
+four : (c : After-waiting_place-place) → c.waiting_place-place.result < 4
+four c = rw (c.waiting_place-place.ensures, c.up-up.ensures) (place_of-four _ _ c.guest_seat.result.now c.places_shape.ensures (rw c.guest_seat.ensures c.requires))
+
 pub offset_bounds-hands-place : goal.offset_bounds-hands-place
-offset_bounds-hands-place c =
-    let full : length c.args.s.hands.places ≡ 4 = search rules in
-    omega (arith, place_of-four c.args.o c.args.up c.args.s full c.requires, c.waiting_place-place.ensures)
+offset_bounds-hands-place c = omega (arith, four (goal.at.offset_bounds-hands-place c).After-waiting_place-place)
 
 pub bounds-hands-place : goal.bounds-hands-place
-bounds-hands-place c =
-    let full : length c.args.s.hands.places ≡ 4 = search rules in
-    omega (arith, place_of-four c.args.o c.args.up c.args.s full c.requires, c.waiting_place-place.ensures)
+bounds-hands-place c = four (goal.at.bounds-hands-place c).After-waiting_place-place
 
-pub returns-clause-many : goal.returns-clause-many
-returns-clause-many c =
-    let full : length c.args.s.hands.places ≡ 4 = search rules in
-    c.used.ensures ∙ sym (many_hands c.args.s.hands full)
-
-pub returns-clause-hand : goal.returns-clause-hand
-returns-clause-hand c = ap (place_of c.args.s) c.waiting_place-place.ensures
-
-pub returns-clause-four : goal.returns-clause-four
-returns-clause-four c =
-    let full : length c.args.s.hands.places ≡ 4 = search rules in
-    omega (arith, place_of-four c.args.o c.args.up c.args.s full c.requires, c.waiting_place-place.ensures)
+pub returns-clause-turn : goal.returns-clause-turn
+returns-clause-turn c =
+    record {
+      waits = c.requires;
+      up_is = c.up-up.ensures;
+      many_is = c.used.ensures ∙ sym (many_hands c.guest_seat.result.now.hands c.places_shape.ensures) ∙ simp c.guest_seat.ensures;
+      place_is = simp (c.waiting_place-place.ensures, c.up-up.ensures, c.guest_seat.ensures);
+      four = four (goal.at.returns-clause-turn c).After-waiting_place-place;
+      hand_is = simp (c.waiting_place-place.ensures, c.up-up.ensures, c.guest_seat.ensures);
+    }

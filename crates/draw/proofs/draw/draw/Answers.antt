@@ -1,27 +1,27 @@
 -- Why it is refused, or the effect, for which the accepted call gives what it asks.
-use mathlib.Core.Path.{◌≡◌, sym, ◌∙◌, ap}
+use mathlib.Core.Path.{sym}
 use native.Mathlib.Omega.{arith}
-use Rattle.call.proofs.Refusals.{residual}
 use Rattle.answer.proofs.outcome.Laws.{refused-seat, accepted}
 use Rattle.decisions_spec.proofs.Draw.{DrawAccepted, draw-accepted}
 use Rattle.draw.proofs.card.Laws.{drawable}
-use Rattle.draw.proofs.draw.draw.Goals.{In_ok-check_draw}
+use Rattle.draw.proofs.draw.draw.Goals.{In_ok-turn}
 use Rattle.draw.proofs.draw.draw.Goals as goal
 
 -- what an accepted call has
-has : (c : In_ok-check_draw) → DrawAccepted c.args.t.now c.args.at.seat
-has c = draw-accepted c.args.t.now c.args.at.seat c.args.at.position (sym c.in_ok-check_draw.ensures.number)
+has : (c : In_ok-turn) → DrawAccepted c.args.t.now c.args.at.seat
+has c = draw-accepted c.args.t.now c.args.at.seat c.args.at.position (sym c.in_ok-turn.ensures.number)
 
-pub returns-in_err-check_draw-clause-same : goal.returns-in_err-check_draw-clause-same
-returns-in_err-check_draw-clause-same c = refused-seat _ _ _ _ _ _ c.from_residual.ensures.1 c.in_err-check_draw.ensures.number
+pub returns-in_err-turn-clause-same : goal.returns-in_err-turn-clause-same
+returns-in_err-turn-clause-same c = refused-seat _ _ _ _ _ _ c.from_residual.ensures.1 c.in_err-turn.ensures.number
 
 pub with_next_card-requires : goal.with_next_card-requires
 with_next_card-requires c =
-    let a = has c in
-    drawable _ _ _ c.check_draw.ensures.nine a.turn (omega arith) (λ p h. omega arith) a.left
+    let a = has (goal.at.with_next_card-requires c).In_ok-turn in
+    let (is, turn) = c.in_ok-turn.ensures.hand in
+    rw c.table.ensures.same (drawable _ _ _ _ is turn c.table.ensures.nine a.turn (omega arith) (λ p h. omega arith) a.left)
 
 pub returns-clause-same : goal.returns-clause-same
-returns-clause-same c = accepted _ _ _ c.in_ok-check_draw.ensures.number c.with_next_card.ensures.table
+returns-clause-same c = accepted _ _ _ c.in_ok-turn.ensures.number (simp (c.table.ensures.same, c.in_ok-turn.ensures.hand.0) at c.with_next_card.ensures.table)
 
-pub returns-clause-shown : goal.returns-clause-shown
-returns-clause-shown c = ((has (goal.at.returns-clause-shown c).In_ok-check_draw).turn.acting.nine, c.with_next_card.ensures.hand)
+pub returns-clause-told : goal.returns-clause-told
+returns-clause-told c = ((has (goal.at.returns-clause-told c).In_ok-turn).turn.acting.nine, simp (c.table.ensures.same, c.in_ok-turn.ensures.hand.0) at c.with_next_card.ensures.hand)

@@ -1,5 +1,5 @@
 -- Each card of the pair is kept in a hand of its own, in the places that the parent's gives; each guest's purse pays and the number of hands does not wrap.
-use mathlib.Core.Path.{◌≡◌, refl}
+use mathlib.Core.Path.{◌≡◌}
 use native.Mathlib.Omega.{arith}
 use lib.ListN.{length}
 use borrow.Author.Rules.{rules}

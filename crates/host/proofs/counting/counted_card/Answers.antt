@@ -3,22 +3,21 @@ use mathlib.Core.Path.{◌≡◌, ◌∙◌, ap, ap₂}
 use Prim.Native.Nat.{ℕ, ◌+◌, ◌-◌, ◌/◌, ◌%◌, ◌≤◌}
 use native.Mathlib.Omega.{arith}
 use Rattle.table.specs.declared.Money.{Money}
-use Rattle.table.specs.declared.Seat.{Seat}
-use Rattle.table.specs.Seat.{guest_at, purse, laid, prizes}
+use Rattle.table.specs.Seat.{purse, laid, prizes}
 use Rattle.table.specs.Table.{guest_of}
 use Rattle.host_spec.specs.Broken.{most_laid, most_back}
 use Rattle.host_spec.specs.Close.{with_round, came_back}
 use Rattle.host.proofs.Fits.{card-fits}
 use Rattle.host.proofs.counting.Laws.{not_here, stands_still, not_staked, counts_there, gains, back_small, laid-small}
-use Rattle.host.proofs.counting.counted_card.Goals.{After-guest_at-s, After-guest_money-then, After-laid, After-prizes}
+use Rattle.host.proofs.counting.counted_card.Goals.{After-guest_of-s, After-guest_money-then, After-laid, After-prizes}
 use Rattle.host.proofs.counting.counted_card.Goals as goal
 
 -- the guest before the close, and the money after it
-guest-is : (c : After-guest_at-s) → c.guest_at-s.result ≡ guest_of c.args.t (c.args.place / 3) (c.args.place % 3)
-guest-is c = c.guest_at-s.ensures ∙ ap (λ (s : Seat). guest_at s (c.args.place % 3)) c.seat_at.ensures
+guest-is : (c : After-guest_of-s) → c.guest_of-s.result ≡ guest_of c.args.t (c.args.place / 3) (c.args.place % 3)
+guest-is c = simp (c.guest_in-guest.ensures.seat, c.guest_in-guest.ensures.position) at c.guest_of-s.ensures
 
-then_is : (c : After-guest_money-then) → c.guest_money-then.result ≡ (guest_of c.args.after (c.args.place / 3) (c.args.place % 3)).money
-then_is c = c.guest_money-then.ensures ∙ ap (λ (s : Seat). (guest_at s (c.args.place % 3)).money) c.seat_at-2.ensures
+then_is : (c : After-guest_money-then) → c.guest_money-then.result.now ≡ (guest_of c.args.after (c.args.place / 3) (c.args.place % 3)).money
+then_is c = simp (c.guest_in-guest.ensures.seat, c.guest_in-guest.ensures.position) at c.guest_money-then.ensures
 
 gained : (c : After-guest_money-then) → purse (guest_of c.args.t (c.args.place / 3) (c.args.place % 3)) ≤ purse (guest_of c.args.after (c.args.place / 3) (c.args.place % 3))
 gained c = gains c.args.t c.args.after c.requires.shape c.requires.accepted c.requires.closed c.args.place c.requires.inside
@@ -30,15 +29,15 @@ small-laid : (c : After-guest_money-then) → laid (guest_of c.args.t (c.args.pl
 small-laid c = laid-small c.args.t c.args.after c.requires.shape c.requires.accepted c.requires.closed c.args.place c.requires.inside
 
 -- what came back, and what was laid
-back_is : (c : After-prizes) → c.guest_money-then.result.purse - c.guest_at-s.result.money.purse + c.prizes.result ≡ came_back c.args.t c.args.after (c.args.place / 3) (c.args.place % 3)
+back_is : (c : After-prizes) → c.guest_money-then.result.now.purse - c.guest_of-s.result.money.purse + c.prizes.result ≡ came_back c.args.t c.args.after (c.args.place / 3) (c.args.place % 3)
 back_is c =
     let a = c.args in
-    let guest = c.guest_at-s.ensures ∙ ap (λ (s : Seat). guest_at s (a.place % 3)) c.seat_at.ensures in
-    let paid = ap (λ (m : Money). m.purse) (c.guest_money-then.ensures ∙ ap (λ (s : Seat). (guest_at s (a.place % 3)).money) c.seat_at-2.ensures) in
+    let guest = simp (c.guest_in-guest.ensures.seat, c.guest_in-guest.ensures.position) at c.guest_of-s.ensures in
+    let paid = ap (λ (m : Money). m.purse) (simp (c.guest_in-guest.ensures.seat, c.guest_in-guest.ensures.position) at c.guest_money-then.ensures) in
     ap₂ (λ (x y : ℕ). x + y) (ap₂ (λ (x y : ℕ). x - y) paid (ap purse guest)) (c.prizes.ensures ∙ ap (prizes a.t.options) guest)
 
 laid_is : (c : After-laid) → c.laid.result ≡ laid (guest_of c.args.t (c.args.place / 3) (c.args.place % 3))
-laid_is c = c.laid.ensures ∙ ap laid (c.guest_at-s.ensures ∙ ap (λ (s : Seat). guest_at s (c.args.place % 3)) c.seat_at.ensures)
+laid_is c = c.laid.ensures ∙ ap laid (simp (c.guest_in-guest.ensures.seat, c.guest_in-guest.ensures.position) at c.guest_of-s.ensures)
 
 pub returns-then-g-ne1 : goal.returns-then-g-ne1
 returns-then-g-ne1 c = let a = c.args in not_here a.t a.after (a.place / 3) (a.place % 3) a.g c.if-g-ne1.true
@@ -49,13 +48,13 @@ returns-then-g-ge-MOST_ROUNDS c = let a = c.args in stands_still a.t a.after (a.
 pub returns-then-s-eq0 : goal.returns-then-s-eq0
 returns-then-s-eq0 c =
     let a = c.args in
-    not_staked a.t a.after (a.place / 3) (a.place % 3) a.g c.guest_at-s.result (guest-is (goal.at.returns-then-s-eq0 c).After-guest_at-s) c.if-s-eq0.true
+    not_staked a.t a.after (a.place / 3) (a.place % 3) a.g c.guest_of-s.result (guest-is (goal.at.returns-then-s-eq0 c).After-guest_of-s) c.if-s-eq0.true
 
-pub seat_at-requires-2 : goal.seat_at-requires-2
-seat_at-requires-2 c = let inside = c.requires.inside in omega arith
+pub guest_in-guest-requires : goal.guest_in-guest-requires
+guest_in-guest-requires c = c.requires.inside
 
 pub overflow_sub-back : goal.overflow_sub-back
-overflow_sub-back c = omega (arith, gained (goal.at.overflow_sub-back c).After-guest_money-then, ap purse (guest-is (goal.at.overflow_sub-back c).After-guest_at-s), ap (λ (m : Money). m.purse) (then_is (goal.at.overflow_sub-back c).After-guest_money-then))
+overflow_sub-back c = omega (arith, gained (goal.at.overflow_sub-back c).After-guest_money-then, ap purse (guest-is (goal.at.overflow_sub-back c).After-guest_of-s), ap (λ (m : Money). m.purse) (then_is (goal.at.overflow_sub-back c).After-guest_money-then))
 
 pub overflow_add-back : goal.overflow_add-back
 overflow_add-back c = omega (arith, back_is c, small-back (goal.at.overflow_add-back c).After-guest_money-then)
@@ -72,5 +71,5 @@ with_round-next-requires c =
 pub returns : goal.returns
 returns c =
     let a = c.args in
-    counts_there a.t a.after (a.place / 3) (a.place % 3) a.g c.if-g-ne1.false c.if-g-ge-MOST_ROUNDS.false c.guest_at-s.result (guest-is (goal.at.returns c).After-guest_at-s) c.if-s-eq0.false _
+    counts_there a.t a.after (a.place / 3) (a.place % 3) a.g c.if-g-ne1.false c.if-g-ge-MOST_ROUNDS.false c.guest_of-s.result (guest-is (goal.at.returns c).After-guest_of-s) c.if-s-eq0.false _
     (c.with_round-next.ensures ∙ ap₂ (with_round a.g.tally) (laid_is (goal.at.returns c).After-laid) (back_is (goal.at.returns c).After-prizes))
