@@ -36,7 +36,8 @@ fn check_chances(up: u8, left: [u8; 52], depth: u8) -> Result<(), Refusal>
     ])
 }
 
-fn refused(why: Refusal) -> BankChances
+// The answer to a question that is refused. Public for the library, which refuses counts of a wrong length.
+pub fn refused(why: Refusal) -> BankChances
     ensures { result ≡ make_chances (number_of why) 0 (replicate 8 0) }
 {
     BankChances {

@@ -16,6 +16,7 @@ pub(crate) struct Counts {
 }
 
 // n (n − 1) … (n − k + 1).
+// Here and below at most 416 cards and six draws, asked of the numbers: both fall with each draw, so a type of the two would be made anew at every step of the recursion.
 pub(crate) fn falling(n: u64, depth: u8) -> u64
     requires { (n ≤ 416) × (depth ≤ 6) }
     ensures { result ≡ falling_of n depth }

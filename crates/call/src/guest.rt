@@ -1,4 +1,4 @@
-// A guest of the table: a seat of the nine and a position of the three (request 2.8), known to be so. It is made behind 8 and 22, and what is asked of it asks neither again.
+// A guest of the table: a seat of the nine and a position of the three (request 2.8), known to be so: made behind 8 and 22, so that no function of a guest asks for either again.
 ghost use Rattle.std.specs.Prelude.{◌≡◌, ◌<◌, ◌*◌, ◌+◌};
 ghost use Rattle.call.specs.declared.At.{At};
 

@@ -80,6 +80,7 @@ impl<'a> Closing<'a> {
         next
     }
 
+    // What the close gives back. Two lent arrays, since C lends them so.
     pub(crate) fn settle(&self, names: &mut [u32; LINES], nets: &mut [i64; LINES]) -> Settled
         ensures { given_of (closed_reply self.now.0 (Ok result)) names.new nets.new ≡ given_by (make_reply_view 0 (close_shown self.now.0) (close_effect self.now.0)) names.old nets.old }
     {

@@ -51,7 +51,7 @@ impl PayLines<'_> {
         self.put(guest, 0, INSURANCE, pay);
     }
 
-    // A line for a side stake of that kind, if there is one. The kind is a byte, as C reads it in the name: any byte has its answer. `split` is a fact of the hands,
+    // A line for a side stake of that kind, if there is one. The kind is a byte, since C reads it in the name. `split` is a fact of the hands,
     // worked out once for the four kinds.
     fn side_line(&mut self, guest: At, kind: u8, stake: u32, first: [u8; 3], split: bool)
         requires { kind ≤ 4 }

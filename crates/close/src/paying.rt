@@ -25,7 +25,7 @@ pub(crate) struct Payment {
 }
 
 // What goes back for a side stake: at most 5001 times as much.
-// The kind is the byte of a call. `split` is a fact of the hands, worked out once for all four kinds, and no choice of the caller's.
+// The kind is a byte, 1 to 4, as a call has it. `split` is a fact of the hands, worked out once for all four kinds, and no choice of the caller's.
 fn side_back(kind: u8, stake: u32, first: [u8; 3], split: bool) -> u64
     ensures same { result ≡ (side_pay kind stake (take (cond split 3 2) first)).back }
     ensures small { result ≤ 21479131447296 }

@@ -34,7 +34,8 @@ fn holding(purse: u64) -> Money
 }
 
 impl Ending {
-    // The purse of a guest then: it gets back what was laid and returns the prizes, or gets what goes back.
+    // The purse of a guest then: it gets back what was laid and returns the prizes, or gets what goes back. `Endable` is of an ending and a seat together, so the type of neither can say it; of all
+    // guests of a seat it is `AllEndable`.
     fn purse(&self, s: Seat) -> u64
         requires { Endable self.now s }
         ensures { result ≡ ended_purse self.now s }

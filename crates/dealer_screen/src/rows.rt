@@ -61,6 +61,7 @@ pub(crate) fn no_rows() -> Rows
 }
 
 // One row more: it is kept where there is room, and counted.
+// Here and below the count is asked to be small enough for what is added, another number each: a type would have to hold it, and each would ask again.
 fn with_row(rows: Rows, r: Row) -> Rows
     requires { rows.count < 72 }
     ensures { result ≡ with_row rows r }

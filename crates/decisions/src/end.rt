@@ -9,7 +9,8 @@ use answer::moved::{Moved, seat_moved};
 use state::seat::guest_seat;
 use table::Table;
 
-// By the decision of this code. It asks that the hand is the one whose turn it is.
+// By the decision of this code. It asks that the hand is the one whose turn it is, as a draw and a split ask with more (`Drawable`, `Splits` of draw): of a table and a hand, so no type of the
+// hand can say it.
 // The code is the byte that the hand then holds.
 pub(crate) fn ended(t: &Table, turn: HandInTurn, code: u8) -> Moved
     requires { InTurn t.now turn }

@@ -1,5 +1,5 @@
 // Insurance and the decisions that draw no card: insure, surrender, stand, even and five, each in a module of its own, and what the decisions share.
-// Each call gives back the number and the table that its definition says (crate decisions_spec), for every table that is not broken.
+// Each call gives back what it moves or why it is refused, as its definition says (crate decisions_spec), for every table that is not broken.
 #![tactic(auto)]
 
 mod end;

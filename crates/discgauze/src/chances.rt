@@ -1,10 +1,10 @@
 // The bank's chances, and the faces left of a table that they can be asked of.
-ghost use Rattle.std.specs.Prelude.{◌≡◌, length, replicate};
-ghost use Rattle.bank_chances.specs.Chances.{make_chances};
+ghost use Rattle.std.specs.Prelude.{◌≡◌, length};
 ghost use Rattle.faces_left.specs.FacesLeft.{faces_left};
 ghost use Rattle.discgauze.specs.Chances.{chances_by};
 
-use bank_chances::{BankChances, chances};
+use bank_chances::{BankChances, chances, refused};
+use call::refusal::Refusal;
 use faces_left::{FacesLeft, faces_left};
 use table::Table;
 
@@ -18,23 +18,13 @@ fn faces_of(left: &[u8]) -> [u8; 52]
     faces
 }
 
-fn wrong_length() -> BankChances
-    ensures { result ≡ make_chances 3 0 (replicate 8 0) }
-{
-    BankChances {
-        number: 3,
-        all: 0,
-        counts: [0u64; 8],
-    }
-}
-
 // The up card, how often each of the 52 faces is left, and how many cards are drawn.
 #[unsafe(no_mangle)]
 pub extern "C" fn discgauze_chances(up: u8, left: &[u8], depth: u8) -> BankChances
     ensures { result ≡ chances_by up left.now depth }
 {
     if left.len() != 52 {
-        return wrong_length();
+        return refused(Refusal::WrongOrder);
     }
     chances(up, faces_of(left), depth)
 }

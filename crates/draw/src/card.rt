@@ -48,6 +48,7 @@ pub(crate) fn purse_short(s: Seat) -> bool
 }
 
 // A guest's money once the hand has its card: so many more stakes laid, and its prize won.
+// Here and below what the purse must hold is asked of one guest, of the seat's guests, and of the call (`Affords`, `AllAfford`, `Drawable`): a type would hold table, hand and times together.
 fn card_money(o: Options, times: u64, h: SeatHand, m: Money) -> Money
     requires { Affords times m }
     ensures { result ≡ card_money o times (played_of h) m }

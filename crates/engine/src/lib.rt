@@ -74,6 +74,7 @@ fn loaded(t: &Whole, next: &mut Table, order: &[u8]) -> Answer
     changed(next, load(t, order))
 }
 
+// Two lent arrays, as C lends them.
 #[inline(never)]
 fn closed(t: &Whole, next: &mut Table, names: &mut [u32; LINES], nets: &mut [i64; LINES]) -> Answer
     requires { next.old ≡ t.now }

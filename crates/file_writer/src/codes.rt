@@ -29,7 +29,7 @@ fn of_house(kind: u8, amount: u64) -> Parts
 }
 
 // A call with a seat.
-// Its kind is the file's byte, here and below.
+// Its kind is the file's byte.
 fn of_guest(kind: u8, at: At, amount: u64) -> Parts
     ensures { result ≡ guest_parts kind at amount }
 {
@@ -41,7 +41,7 @@ fn of_guest(kind: u8, at: At, amount: u64) -> Parts
     }
 }
 
-// A side stake of one of the four kinds, or of none.
+// A side stake of one of the four kinds, or of none: any byte that a call has.
 fn of_side(at: At, kind: u8, amount: u64) -> Parts
     ensures { result ≡ side_parts at kind amount }
 {

@@ -20,7 +20,7 @@ pub(crate) fn host_call_name(call: HostCall) -> &'static str {
     match call {
         HostCall::Arrive(..) => "arrive",
         HostCall::Leave(_) => "leave",
-        // Calls that the script does not make have always been named so.
+        // Calls that the script does not make.
         HostCall::Play(
             Call::Credit(_)
             | Call::Cash(..)

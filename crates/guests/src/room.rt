@@ -1,6 +1,7 @@
 // What is kept from row to row: the hosted table, and the stage for orders, openings and pay lines. Rows may also put a card or a tally there as no call does.
 use answer::reply::Answer;
 use call::At;
+use call::guest::Guest;
 use call::refusal::Refusal;
 use host::outcome::HostReply;
 use host::{host_step, without_cards};
@@ -55,8 +56,7 @@ impl Room {
             wagered: money,
             returned: money,
         };
-        let place = 3 * usize::from(at.seat) + usize::from(at.position);
-        self.hosted.cards[place] = GuestCard {
+        self.hosted.cards[Guest::new(at).place()] = GuestCard {
             here: 1,
             card,
             tally,

@@ -4,6 +4,8 @@ ghost use Rattle.host.specs.Shown.{card_or_none, card_values, card_shown};
 
 use crate::places::no_card;
 use crate::sound::host_broken;
+use call::At;
+use call::guest::Guest;
 use host_spec::{GuestCard, Hosted};
 
 // Whether a card sits there, which, and its tally: rounds closed, money wagered, net with prizes. A flag beside
@@ -31,8 +33,8 @@ fn card_or_none(h: Hosted, seat: u8, position: u8) -> GuestCard
     if 3 <= position {
         return no_card();
     }
-    let place = 3 * (seat as usize) + (position as usize);
-    h.cards[place]
+    let guest = Guest::new(At { seat, position });
+    h.cards[guest.place()]
 }
 
 fn card_values(g: GuestCard) -> CardShown

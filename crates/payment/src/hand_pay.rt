@@ -53,14 +53,15 @@ fn against_bank(o: Options, bank: Score, stake: u32, laid: u64, mine: u32, h: Se
         }
     } else if bank.natural {
         against_natural(o, stake, laid, h)
-    } else if 21 < bank.total {
-        laid + laid
     } else {
-        by_totals(laid, mine, bank.total)
+        match bank.total {
+            0..=21 => by_totals(laid, mine, bank.total),
+            _ => laid + laid,
+        }
     }
 }
 
-// The pay of a hand of this stake against the bank's score.
+// The pay of a hand of this stake against the bank's score. The way it ended is a number in a local, and totals are matched by ranges: the form that document 01 names.
 #[tactic(auto, using(crate::proofs::Bounds::wager_bounds), unfolding(crate::specs::HandPay::hand_back))]
 pub fn hand_pay(o: Options, bank: Score, stake: u32, h: SeatHand) -> Pay
     ensures { result ≡ hand_pay o bank stake (played_of h) }
@@ -68,12 +69,15 @@ pub fn hand_pay(o: Options, bank: Score, stake: u32, h: SeatHand) -> Pay
     let laid = wager(stake, h);
     let s = stake as u64;
     let mine = total(h.hand);
-    let back = match h.ended {
+    let ended = h.ended;
+    let back = match ended {
         BY_SURRENDER => laid - s / 2,
         BY_EVEN => laid + s,
         BY_FIVE => laid + s / 2,
-        _ if 21 < mine => 0,
-        _ => against_bank(o, bank, stake, laid, mine, h),
+        _ => match mine {
+            0..=21 => against_bank(o, bank, stake, laid, mine, h),
+            _ => 0,
+        },
     };
     Pay { laid, back }
 }

@@ -66,7 +66,7 @@ fn both(first: &[u8]) -> u8
     points(first[0]) + points(first[1])
 }
 
-// What the kind pays to one; 0 where it loses. The kind is the byte of a call: every byte has its answer.
+// What the kind pays to one; 0 where it loses. The kind is a byte, as a call has it: every byte has its answer, as in the definition.
 #[tactic(auto, using(crate::proofs::side_pay::Laws::pair_most, crate::proofs::side_pay::Laws::sevens_most), unfolding(crate::specs::SidePay::side_odds, crate::specs::SidePay::more_odds, crate::specs::SidePay::less_odds))]
 fn side_odds(kind: u8, first: &[u8]) -> u64
     requires { 2 ≤ length first.now }

@@ -71,7 +71,7 @@ pub fn call_heading<W: Write>(out: &mut W) -> io::Result<()>
     heading(out, b"call no tray layout purses left")
 }
 
-// The number of a call that a script has wrong, behind these words; an accepted call, whose number is 0, writes nothing.
+// The number of a refused call or question, behind these words; an accepted one, whose number is 0, writes nothing.
 // The number is what is printed.
 pub fn refused<W: Write>(out: &mut W, words: &str, number: u8) -> io::Result<()>
     ensures { number ≡ 0 → Keeps (W.contents out.old) (W.contents out.new) }

@@ -12,7 +12,7 @@ use script::orders::Order;
 use script::{digit, number};
 use state::empty::no_options;
 
-// The letters in front, which every row has, then the words.
+// The whole line; the letters in front, which every row has; the words behind them.
 #[derive(Clone, Copy)]
 pub struct Row<'a> {
     pub letters: &'a [u8],

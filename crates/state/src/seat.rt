@@ -1,4 +1,4 @@
-// A seat taken out of the table and put back; a guest of it taken out and put back (request 2.8), and who decides for it.
+// A guest's seat and money (request 2.8), read of the table and put back; who decides for a seat; and whether nobody is there.
 ghost use Rattle.std.specs.Prelude.{◌≡◌, eqb, get_or};
 ghost use Rattle.lists.specs.Below.{all_below};
 ghost use Rattle.table.specs.Guest.{is_nobody, nobody_in};

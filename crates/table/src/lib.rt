@@ -30,6 +30,7 @@ pub struct Seat {
 
 // The shoe: the loaded order and how much of it is drawn; the discards and how many there are; 1 once a deal was accepted since the opening, else 0, which the
 // machine's burn asks.
+// Two arrays with their numbers and no Vec: C reads a table as it lies, and a step takes no memory.
 #[repr(C)]
 #[derive(Clone, Copy)]
 pub struct Shoe {

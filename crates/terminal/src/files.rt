@@ -46,13 +46,11 @@ fn figures<W: Write>(out: &mut W, t: Table) -> io::Result<()> {
 
 impl Desk {
     // The complete blocks and the one that is still open.
-    fn write_to<F: Write>(&self, to: &mut F) -> bool {
-        if to.write_all(&self.file).is_err() {
-            return false;
-        }
+    fn write_to<F: Write>(&self, to: &mut F) -> io::Result<()> {
+        to.write_all(&self.file)?;
         match self.writer.end() {
-            Some(block) => to.write_all(&block).is_ok(),
-            None => true,
+            Some(block) => to.write_all(&block),
+            None => Ok(()),
         }
     }
 
@@ -67,13 +65,10 @@ impl Desk {
             return writeln!(out, "The session is too long for this program to save.");
         }
         match new_file(rt, name) {
-            Some(mut to) => {
-                if self.write_to(&mut to) {
-                    writeln!(out, "The session is saved.")
-                } else {
-                    writeln!(out, "The file could not be written whole.")
-                }
-            }
+            Some(mut to) => match self.write_to(&mut to) {
+                Ok(()) => writeln!(out, "The session is saved."),
+                Err(_) => writeln!(out, "The file could not be written whole."),
+            },
             None => Fault::Wrong(name, Needed::NewFile).tell(out),
         }
     }

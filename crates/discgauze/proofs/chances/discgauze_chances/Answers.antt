@@ -10,7 +10,7 @@ use Rattle.discgauze.proofs.chances.discgauze_chances.Goals as goal
 
 pub returns-then-left-ne52 : goal.returns-then-left-ne52
 unfolding chances_by
-returns-then-left-ne52 c = c.wrong_length.ensures ∙ rw (ne_eqb (length c.args.left.now) 52 c.if-left-ne52.true)
+returns-then-left-ne52 c = c.refused.ensures ∙ rw (ne_eqb (length c.args.left.now) 52 c.if-left-ne52.true)
 
 pub returns : goal.returns
 unfolding chances_by

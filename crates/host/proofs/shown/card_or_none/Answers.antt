@@ -33,11 +33,12 @@ pub returns-then-position-ge3 : goal.returns-then-position-ge3
 unfolding card_or_none
 returns-then-position-ge3 c = record { same = simp (sym c.host_broken.ensures ∙ c.if-host_broken.false, lt-leb _ _ c.if-h-seat.false, le-leb _ _ c.if-position-ge3.true) c.no_card-then-position-ge3.ensures; small = small-none _ c.no_card-then-position-ge3.ensures }
 
-pub bounds-h-place : goal.bounds-h-place
-bounds-h-place c = inside c
+pub new-guest-requires-clause-seat : goal.new-guest-requires-clause-seat
+new-guest-requires-clause-seat c = seat_of-nine _ _ (whole_table _ (sym c.host_broken.ensures ∙ c.if-host_broken.false)) (lt-leb _ _ c.if-h-seat.false)
 
 pub returns : goal.returns
 unfolding card_or_none
 returns c =
     let a = c.args in
-    record { same = simp (whole (goal.at.returns c).Else-position-ge3, lt-leb _ _ c.if-h-seat.false, lt-leb _ _ c.if-position-ge3.false); small = small-card a.h (place_at a.seat a.position) (whole (goal.at.returns c).Else-position-ge3) (inside (goal.at.returns c).Else-position-ge3) }
+    let place = simp c.new-guest.ensures at c.place.ensures.same in
+    record { same = simp (whole (goal.at.returns c).Else-position-ge3, lt-leb _ _ c.if-h-seat.false, lt-leb _ _ c.if-position-ge3.false, place); small = rw place (small-card a.h (place_at a.seat a.position) (whole (goal.at.returns c).Else-position-ge3) (inside (goal.at.returns c).Else-position-ge3)) }
