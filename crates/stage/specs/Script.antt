@@ -19,7 +19,7 @@ pub record TakesRow {F W S E : Type 0} (g : Shared F (MutBor W × (MutBor S × (
   pub state : MutBor S
   pub row : Row
   pub shows : (out.now ≡ p.0) × (state.now ≡ p.1)
-  pub reads : (row.front.now ≡ take 21 line) × (row.words.now ≡ drop 21 line)
+  pub reads : (row.letters.now ≡ line) × (row.front.now ≡ take 21 line) × (row.words.now ≡ drop 21 line)
   pub left : MutBor W × (MutBor S × Unit {0})
   pub result : Result (Unit {0}) E
   pub met : g.post f (out, (state, (row, tt))) (result, left)

@@ -24,7 +24,7 @@ impl<'a> Row<'a> {
     // A line that is too short is no row.
     pub fn read(letters: &'a [u8]) -> Option<Self>
         ensures found { IsSome result ↔ (21 ≤ length letters.now) }
-        ensures parts { IfSome result (λ row. (row.front.now ≡ take 21 letters.now) × (row.words.now ≡ drop 21 letters.now)) }
+        ensures parts { IfSome result (λ row. (row.letters.now ≡ letters.now) × (row.front.now ≡ take 21 letters.now) × (row.words.now ≡ drop 21 letters.now)) }
     {
         let (front, words) = letters.split_first_chunk::<21>()?;
         Some(Row {
