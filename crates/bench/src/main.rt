@@ -3,7 +3,7 @@
 
 use broken::broken;
 use call::pay_line::LINES;
-use cashier::opening::{empty_table, opening};
+use cashier::opening;
 use engine::step_in_place;
 use std::io;
 use table::Table;
@@ -16,7 +16,7 @@ use workload::plan::{Plan, Stage, after, chosen, start};
 fn opened(p: Plan) -> Table {
     let cards = order_of(p.decks, p.seed);
     let n = cards_of(p.decks);
-    opening(options_of(p.decks), &cards[..n]).unwrap_or(empty_table())
+    opening::opened(options_of(p.decks), &cards[..n]).table
 }
 
 // A run that ends on a broken table has no checksum.

@@ -1,6 +1,6 @@
 // One session of the workload, played and written as its file.
 use answer::reply::Reply;
-use cashier::opening::{empty_table, opening};
+use cashier::opening::opened;
 use file_block::block::Block;
 use file_writer::writer::Writer;
 use stage::pay_lines::PayLines;
@@ -32,7 +32,7 @@ impl Session {
         let order = &cards[..cards_of(plan.decks)];
         let mut session = Session {
             plan,
-            table: opening(options, order).unwrap_or(empty_table()),
+            table: opened(options, order).table,
             lines: PayLines::new(),
             writer: Writer::new(options),
             file: Vec::new(alloc),

@@ -14,7 +14,7 @@ ghost use Rattle.broken.specs.Aids.Surveyed.{Surveyed, SurveyedGuest, SurveyedSe
 
 use crate::hand::Looked;
 use cards::card::is_ace;
-use money::sums::{Sums, guest_sums, no_sums, played_sums, plus, purse_sums};
+use money::sums::{Sums, money_sums, no_sums, played_sums, plus, purse_sums};
 use options::Options;
 use options::permitted::{insurance_permitted, stake_permitted};
 use state::seat::{no_money, no_sides, nobody_beside};
@@ -99,11 +99,13 @@ fn sound_guest(r: Round, i: usize, s: Seat, m: Sums) -> bool
 }
 
 // Guests tested give their sums, which are so worked out once, or nothing where one is not sound.
-fn surveyed_guest(r: Round, i: usize, s: Seat) -> Option<Sums>
-    ensures { SurveyedGuest r i s result }
+// The seat is lent, and the guest's money stands beside it: put into the pass, of which nothing is copied then.
+#[inline(always)]
+fn surveyed_guest(r: Round, i: usize, m: Money, s: &Seat) -> Option<Sums>
+    ensures { SurveyedGuest r i (with_money s.now m) result }
 {
-    let sums = guest_sums(r.options, s);
-    sound_guest(r, i, s, sums).then_some(sums)
+    let sums = money_sums(r.options, m, s);
+    sound_guest(r, i, Seat { money: m, ..*s }, sums).then_some(sums)
 }
 
 // The seated guest stakes first.
@@ -162,17 +164,18 @@ impl<'a> SeatLook<'a> {
     }
 
     // A guest with that money beside the seated one. Most seats have none: then nothing but the seat's number is asked.
+    #[inline(always)]
     fn surveyed_other(self, m: Money) -> Option<Sums>
         ensures { SurveyedGuest self.entry.round self.entry.number (with_money self.entry.seat.now m) result }
     {
-        let g = Seat {
-            money: m,
-            ..*self.seat
-        };
         if no_money(m) {
+            let g = Seat {
+                money: m,
+                ..*self.seat
+            };
             sound_number(self.round.options, self.number, g).then_some(no_sums())
         } else {
-            surveyed_guest(self.round, self.number, g)
+            surveyed_guest(self.round, self.number, m, self.seat)
         }
     }
 
@@ -181,10 +184,9 @@ impl<'a> SeatLook<'a> {
     fn surveyed_guests(self) -> Option<Sums>
         ensures { Surveyed (each_guest (sound_guest self.entry.round.options self.entry.round.dealt self.entry.round.up self.entry.number) self.entry.seat.now) (seat_sums self.entry.round.options self.entry.seat.now) 3 result }
     {
-        let s = *self.seat;
-        let seated = surveyed_guest(self.round, self.number, s)?;
-        let one = self.surveyed_other(s.others[0])?;
-        let two = self.surveyed_other(s.others[1])?;
+        let seated = surveyed_guest(self.round, self.number, self.seat.money, self.seat)?;
+        let one = self.surveyed_other(self.seat.others[0])?;
+        let two = self.surveyed_other(self.seat.others[1])?;
         Some(plus(plus(seated, one), two))
     }
 

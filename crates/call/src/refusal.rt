@@ -1,7 +1,7 @@
 // Why a call is refused (document 01, "Who can bring about which number", and the new numbers of document 02), and how a call finds it: it asks its list of
 // conditions from the front.
 ghost use Rattle.std.specs.Prelude.{◌≡◌, map};
-ghost use Rattle.call.specs.Refusal.{number_of, number_in, NumberOf, numbered, first};
+ghost use Rattle.call.specs.Refusal.{number_of, number_in, NumberOf, numbered, asked as asked_of, first};
 
 use std::error::Error;
 use std::fmt;
@@ -143,6 +143,13 @@ impl fmt::Display for NoRefusal {
 }
 
 impl Error for NoRefusal {}
+
+// The number where its condition holds, else what was asked behind it: one step of a list, for whoever asks it by numbers.
+pub fn asked(number: u8, holds: bool, later: u8) -> u8
+    ensures { result ≡ asked_of number holds later }
+{
+    if holds { number } else { later }
+}
 
 // The refusal whose condition is the first that holds.
 pub fn first_refusal(conditions: &[(Refusal, bool)]) -> Result<(), Refusal>

@@ -9,6 +9,7 @@ ghost use Rattle.table.specs.Table.{make_table};
 ghost use Rattle.answer.specs.Outcome.{outcome, outcome_in};
 ghost use Rattle.cashier_spec.specs.Opening.{open_conditions, open_table, empty_table};
 
+use answer::outcome::{Outcome, outcome_in};
 use call::refusal::{Refusal, first_refusal};
 use card_count::valid_order::valid_order;
 use cards::hand::empty_hand;
@@ -54,4 +55,11 @@ pub fn opening(o: Options, order: &[u8]) -> Result<Table, Refusal>
 {
     check_opening(o, order)?;
     Ok(table_of(o, new_shoe(order, 0)))
+}
+
+// The same as a number and a table: of a refused opening the empty one.
+pub fn opened(o: Options, order: &[u8]) -> Outcome
+    ensures { result ≡ outcome (open_conditions o order.now) (open_table o order.now) empty_table }
+{
+    outcome_in(&empty_table(), opening(o, order))
 }

@@ -1,6 +1,6 @@
 // The faces left of a table: it opens, each seat asked for stakes, and a round is dealt.
 use call::{At, Call};
-use cashier::opening::{empty_table, opening};
+use cashier::opening::opened;
 use options::Options;
 use script::orders::Order;
 use stage::house::marked;
@@ -28,8 +28,8 @@ fn house(device: u8, decks: u8) -> Options {
 // The table with the round that is dealt from this order, in which every seat below the number stakes 2; the tray covers them.
 pub(crate) fn dealt(device: u8, decks: u8, seats: u8, order: Order) -> Table {
     let mut lines = PayLines::new();
-    let opened = opening(house(device, decks), order.as_slice()).unwrap_or(empty_table());
-    let mut table = lines.step(opened, Call::Fill(1000), b"").table;
+    let opened = opened(house(device, decks), order.as_slice());
+    let mut table = lines.step(opened.table, Call::Fill(1000), b"").table;
     // The seats' numbers are what is called.
     for seat in 0..seats {
         let at = At { seat, position: 0 };

@@ -1,10 +1,10 @@
 // What the six decisions in turn share: their conditions, behind which stands the hand whose turn it is with what the rules ask of it, and a hand put back in its place.
-// Public for the decisions that draw cards (crate draw).
+// Public for the decisions that draw cards (crate draw). `waiting_hand` asks that a hand of the seat waits, as one does behind these conditions.
 ghost use Rattle.std.specs.Prelude.{◌≡◌, true};
-ghost use Rattle.rules.specs.Turn.{seat_waits};
+ghost use Rattle.rules.specs.Turn.{seat_waits, waiting_place};
 ghost use Rattle.table.specs.Seat.{hands as hands_of};
 ghost use Rattle.table.specs.Table.{seat_at, up as up_of};
-ghost use Rattle.decisions_spec.specs.Place.{with_place};
+ghost use Rattle.decisions_spec.specs.Place.{place_of, with_place};
 ghost use Rattle.decisions_spec.specs.Turn.{turn_conditions};
 ghost use Rattle.decisions.specs.InTurn.{InTurn, TurnChecked};
 
@@ -12,6 +12,7 @@ use answer::conditions::guest_in_round;
 use call::At;
 use call::guest::Guest;
 use call::refusal::{Refusal, first_refusal};
+use options::Options;
 use rules::seat_hand::{HandInSeat, SeatHand, used};
 use rules::turn::waiting_place;
 use state::round::up;
@@ -29,8 +30,18 @@ pub struct HandInTurn {
     pub in_seat: HandInSeat,
 }
 
-// The first waiting hand of the guest's seat, which has one.
-fn waiting_hand(t: &Table, guest: Guest) -> HandInTurn
+// The first waiting hand of a seat that has one, whether it lies in a table or not.
+pub fn waiting_hand(o: Options, up: u8, s: &Seat) -> SeatHand
+    requires { seat_waits o up (hands_of s.now) ≡ true }
+    ensures { result ≡ place_of s.now (waiting_place o up (hands_of s.now)) }
+{
+    let hands = s.hands;
+    places_shape(&hands.places);
+    hands.places[waiting_place(o, up, hands)]
+}
+
+// The first waiting hand of the guest's seat, which has one, with what is read of the table beside it.
+fn read_hand(t: &Table, guest: Guest) -> HandInTurn
     requires { seat_waits t.now.options (up_of t.now) (hands_of (seat_at t.now guest.seat)) ≡ true }
     ensures same { result.guest ≡ guest }
     ensures turn { InTurn t.now result }
@@ -66,7 +77,7 @@ pub fn hand_in_turn(t: &Whole, at: At) -> Result<HandInTurn, Refusal>
             decider(t.options, *guest_seat(t, guest)) != at.position,
         ),
     ])?;
-    Ok(waiting_hand(t, guest))
+    Ok(read_hand(t, guest))
 }
 
 // The seat with that hand in place p; the seat itself where it has no such place.

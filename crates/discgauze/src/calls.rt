@@ -6,12 +6,12 @@ ghost use Rattle.answer.specs.Reply.{given_by, given_of};
 ghost use Rattle.cashier_spec.specs.Opening.{open_conditions, open_table, empty_table};
 ghost use Rattle.discgauze.specs.Calls.{unknown_kind, call_by, step_by};
 
-use answer::outcome::{Outcome, outcome_in};
+use answer::outcome::Outcome;
 use answer::reply::{Reply, plain_reply};
 use broken::broken;
 use call::pay_line::LINES;
 use call::{At, Call};
-use cashier::opening::{empty_table, opening};
+use cashier::opening::opened;
 use engine::step;
 use file_block::call_block::call_of;
 use options::Options;
@@ -40,7 +40,7 @@ pub(crate) fn call_by(kind: u8, seat: u8, position: u8, amount: u64) -> Call
 pub extern "C" fn discgauze_opened(options: Options, order: &[u8]) -> Outcome
     ensures { result ≡ outcome (open_conditions options order.now) (open_table options order.now) empty_table }
 {
-    outcome_in(&empty_table(), opening(options, order))
+    opened(options, order)
 }
 
 // One step: the answer and the next table. An accepted close writes its pay lines into the two arrays. Two lent arrays: C lends them so.

@@ -173,13 +173,28 @@ pub extern "C" fn discgauze_file_add(
 ) -> Written
     ensures { Gives writer.options (added_by writer kind seat position amount order.now) result }
 {
-    let mut after = writer;
-    match after.add(call_by(kind, seat, position, amount), order) {
-        Ok(Blocks::None) => given(0, [0; 512], [0; 512], after),
-        Ok(Blocks::One(block)) => given(1, block, [0; 512], after),
-        Ok(Blocks::Two(both)) => given(2, both[0], both[1], after),
-        Err(why) => refused(why, after),
+    // The writer changes where it lies in what is given, and the blocks' room is cleared once.
+    let mut r = Written {
+        number: 0,
+        blocks: 0,
+        first: [0; 512],
+        second: [0; 512],
+        writer,
+    };
+    match r.writer.add(call_by(kind, seat, position, amount), order) {
+        Ok(Blocks::None) => {}
+        Ok(Blocks::One(block)) => {
+            r.blocks = 1;
+            r.first = block;
+        }
+        Ok(Blocks::Two(both)) => {
+            r.blocks = 2;
+            r.first = both[0];
+            r.second = both[1];
+        }
+        Err(why) => r.number = why.number(),
     }
+    r
 }
 
 // The end of a session's file.

@@ -1,5 +1,6 @@
 // The parts of a call and its ten bytes (request 2.9).
 ghost use Rattle.std.specs.Prelude.{◌≡◌};
+ghost use Rattle.call.specs.Call.{kind};
 ghost use Rattle.file_writer.specs.Parts.{parts_of};
 ghost use Rattle.file_writer.specs.Codes.{CodeOf};
 ghost use Rattle.file_writer.specs.Aids.Parts.{house_parts, guest_parts, side_parts};
@@ -81,6 +82,20 @@ pub fn parts_of(c: Call) -> Parts
         Call::Void => of_house(16, 0),
         Call::Load => of_house(17, 0),
         Call::Side(at, kind, n) => of_side(at, kind, n),
+    }
+}
+
+// The kind of any call, one that no file has too: that of a side stake stands behind 17.
+#[tactic(auto, unfolding(file_spec::specs::File::known_kind))]
+pub fn kind_of(c: Call) -> u16
+    ensures { result ≡ kind c }
+{
+    if let Call::Side(_, kind, _) = c {
+        return 17 + u16::from(kind);
+    }
+    match parts_of(c).kind {
+        Some(kind) => u16::from(kind),
+        None => 0,
     }
 }
 

@@ -84,7 +84,8 @@ impl Writer {
         ensures after { (self.new.options ≡ self.old.options) × (calls_of self.new ≡ []) × (self.new.many ≡ 0) }
     {
         let block = call_block(self.many, &self.bytes);
-        self.many = 0;
+        // C reads the bytes behind the open block's calls too: they are zeros, as in a new writer.
+        *self = Writer::new(self.options);
         block
     }
 

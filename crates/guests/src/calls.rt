@@ -16,10 +16,10 @@ pub(crate) fn host_call(letter: u8, at: At, amount: u64) -> HostCall {
 }
 
 // The name of a call, an arrival or a leaving.
-pub(crate) fn host_call_name(call: HostCall) -> &'static str {
+pub(crate) fn host_call_name(call: HostCall) -> &'static [u8] {
     match call {
-        HostCall::Arrive(..) => "arrive",
-        HostCall::Leave(_) => "leave",
+        HostCall::Arrive(..) => b"arrive",
+        HostCall::Leave(_) => b"leave",
         // Calls that the script does not make.
         HostCall::Play(
             Call::Credit(_)
@@ -28,7 +28,7 @@ pub(crate) fn host_call_name(call: HostCall) -> &'static str {
             | Call::Surrender(_)
             | Call::Even(_)
             | Call::Five(_),
-        ) => "load",
+        ) => b"load",
         HostCall::Play(played) => call_name(played),
     }
 }

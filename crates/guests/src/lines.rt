@@ -9,8 +9,14 @@ use std::io::Write;
 
 // The name of a call, its number, and the words of the script.
 // The number is what is printed.
-pub(crate) fn called<W: Write>(out: &mut W, name: &str, number: u8, what: &[u8]) -> io::Result<()> {
-    write!(out, "{name} {number} | ")?;
+pub(crate) fn called<W: Write>(
+    out: &mut W,
+    name: &[u8],
+    number: u8,
+    what: &[u8],
+) -> io::Result<()> {
+    out.write_all(name)?;
+    write!(out, " {number} | ")?;
     heading(out, what)
 }
 

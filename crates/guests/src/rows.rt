@@ -26,7 +26,7 @@ pub(crate) fn take<W: Write>(out: &mut W, room: &mut Room, row: Row<'_>) -> io::
         b'O' => {
             let number = opening_number(room.open(row));
             let words = row.opening_words().unwrap_or(b"");
-            lines::called(out, "open", number, words)?;
+            lines::called(out, b"open", number, words)?;
         }
         _ => play(out, room, row)?,
     }

@@ -8,6 +8,9 @@ use Rattle.host_spec.specs.declared.GuestCard.{GuestCard}
 use Rattle.host_spec.specs.declared.Hosted.{Hosted}
 use Rattle.host_spec.specs.Cards.{no_card, place_at, with_card}
 
+pub seat_of : (i p : ℕ) → p < 3 → place_at i p / 3 ≡ i
+seat_of i p h = omega arith
+
 pub position_of : (i p : ℕ) → p < 3 → place_at i p % 3 ≡ p
 position_of i p h = omega arith
 

@@ -2,9 +2,8 @@
 // takes one card: the accepted calls from deal to close are the cards drawn in it and 18 more. A refused call is written.
 #![tactic(auto)]
 
-use answer::outcome::outcome_in;
 use call::{At, Call};
-use cashier::opening::{empty_table, opening};
+use cashier::opening::opened;
 use options::Options;
 use script::orders::{Order, begun_order};
 use stage::house::marked;
@@ -43,7 +42,7 @@ struct Play {
 
 impl Play {
     fn open<W: Write>(out: &mut W) -> io::Result<Self> {
-        let opened = outcome_in(&empty_table(), opening(house(), order().as_slice()));
+        let opened = opened(house(), order().as_slice());
         refused(out, "refused", opened.number)?;
         Ok(Play {
             table: opened.table,

@@ -7,10 +7,11 @@ ghost use Rattle.table.specs.Seat.{with_money, stake as stake_of, purse as purse
 ghost use Rattle.money.specs.Sums.{make_sums, no_sums, capped, guest_sums, seat_sums, plus_sums, table_sums};
 ghost use Rattle.money.specs.SumsFit.{SumsFit};
 
-use crate::seat_money::{laid_with, prizes, wagers};
+use crate::seat_money::{laid_with, wagers, won};
 use options::Options;
 use payment::cover::{cover, side_cover};
 use state::seat::{no_money, nobody_beside};
+use state::shape::places_shape;
 use table::{Money, Seat, Table};
 
 // All money on a table is at most 10^15.
@@ -60,6 +61,7 @@ pub fn purse_sums(purse: u64) -> Sums
 }
 
 // The sums of one guest whose hands' wagers and prizes are known. Not a part of `guest_sums`: called at one place it is put into the pass that tests every table.
+#[inline(always)]
 pub fn played_sums(s: Seat, wagers: u64, prizes: u64) -> Sums
     requires { wagers ≡ sum_of (wager_of (stake_of s)) (hands_of s.hands) }
     ensures { result ≡ make_sums (stake_of s) (laid_of s) prizes (seat_cover s) (capped (purse_of s)) }
@@ -73,12 +75,24 @@ pub fn played_sums(s: Seat, wagers: u64, prizes: u64) -> Sums
     }
 }
 
+// The sums of the guest with that money at a seat that is lent: nothing but the money is read of a copy.
+#[inline(always)]
+pub fn money_sums(o: Options, m: Money, s: &Seat) -> Sums
+    ensures same { result ≡ guest_sums o (with_money s.now m) }
+    ensures small { SumsFit 1 result }
+{
+    places_shape(&s.hands.places);
+    let wagers = wagers(m.stake, &s.hands);
+    let prizes = won(o, m.stake, &s.hands);
+    played_sums(Seat { money: m, ..*s }, wagers, prizes)
+}
+
 // The sums of one guest.
 pub fn guest_sums(o: Options, s: Seat) -> Sums
     ensures same { result ≡ guest_sums o s }
     ensures small { SumsFit 1 result }
 {
-    played_sums(s, wagers(s.money.stake, s.hands), prizes(o, s))
+    money_sums(o, s.money, &s)
 }
 
 // The sums of two groups of guests together. Public for passes over the 27 alone: so it asks that both are sums of at most 27.

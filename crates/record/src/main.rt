@@ -3,7 +3,7 @@
 
 use answer::reply::Reply;
 use call::Call;
-use cashier::opening::{empty_table, opening};
+use cashier::opening::opened;
 use file_block::block::Block;
 use file_writer::writer::Writer;
 use stage::house::marked;
@@ -54,7 +54,7 @@ fn main(rt: HostRuntime) -> io::Result<()> {
     let block = begun.1;
     out.write_all(&block)?;
     let mut s = Session {
-        table: opening(marked(), order).unwrap_or(empty_table()),
+        table: opened(marked(), order).table,
         lines: PayLines::new(),
         writer: begun.0,
     };

@@ -11,7 +11,7 @@ use std::io::Write;
 // What a row played: the name of the call, and its answer.
 #[derive(Clone, Copy)]
 pub(crate) struct Called {
-    pub(crate) name: &'static str,
+    pub(crate) name: &'static [u8],
     pub(crate) answer: Answer,
 }
 
@@ -47,11 +47,11 @@ fn played(stage: &mut Stage, row: Row<'_>) -> Called {
     let amount = row.amount();
     match row.letter() {
         b'm' => Called {
-            name: "draw",
+            name: b"draw",
             answer: draw(stage, at, amount),
         },
         b'w' => Called {
-            name: "down",
+            name: b"down",
             answer: run_down(stage, at.seat, amount),
         },
         letter => {

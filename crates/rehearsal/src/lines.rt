@@ -24,7 +24,7 @@ fn words_behind<W: Write>(out: &mut W, line: CallLine, what: &[u8]) -> io::Resul
 // The number is what is printed, here and below.
 pub(crate) fn opened<W: Write>(out: &mut W, number: u8, t: Table, what: &[u8]) -> io::Result<()> {
     let line = CallLine {
-        name: "open",
+        name: b"open",
         number,
         table: t,
     };

@@ -23,7 +23,7 @@ fn replay<W: Write>(out: &mut W, file: &[u8]) -> io::Result<()> {
         Ok(table) => {
             call_heading(out)?;
             let line = CallLine {
-                name: "open",
+                name: b"open",
                 number: 0,
                 table: *table.table(),
             };

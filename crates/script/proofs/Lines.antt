@@ -1,7 +1,12 @@
 -- Laws of lines: the place of the first element that passes is the one that std's `position` finds, and a line's end is between its start and the text's end.
-use Rattle.std.proofs.Common.{◌≡◌, refl, ap, ◌∙◌, Bool, true, false, cond, [], ◌∷◌, List, ℕ, suc, ◌+◌, ◌≤◌, length, arith, Some, None, nat_lt}
+use Rattle.std.proofs.Common.{◌≡◌, refl, ap, ◌∙◌, Bool, true, false, cond, [], ◌∷◌, List, ℕ, suc, ◌+◌, ◌≤◌, length, take, drop, arith, Some, None, nat_lt}
+use lib.Dec.{ltb}
+use native.Mathlib.Numerals.{unary_clauses}
+use Prim.Native.Nat.compare
+use Rattle.std.specs.List.{onto_first}
+use Rattle.script.specs.Lines.{ends_line, lines_of, LinesEnd}
 use Rattle.std.specs.Option.{unwrap_or}
-use borrow.Author.Tests.{ltb-false}
+use borrow.Author.Tests.{ltb-false, lt-ltb}
 use Rattle.std.specs.List.{position, position_or_len}
 use Rattle.std.proofs.lemmas.List.Recursion.{is_position_or_len}
 use Rattle.lists.specs.Tests.{first_place}
@@ -40,3 +45,25 @@ module _ {A : Type 0} where
   place-none f xs h =
       let past = ltb-false (position_or_len f xs) (length xs) (found-none (nat_lt (position_or_len f xs) (length xs)) (position_or_len f xs) h) in
       omega (arith, place-most f xs, place-position_or_len f xs, past)
+
+-- the library cuts a text where its lines end
+pub lines_end : (text : List ℕ) → LinesEnd text
+unfolding first_place
+lines_end [] = refl
+lines_end (x ∷ xs) = go (ends_line x) (lines_end xs)
+  where
+    Ends : ℕ → List ℕ → Type 0
+    Ends k text = lines_of text ≡ take k text ∷ cond (ltb k (length text)) (lines_of (drop (k + 1) text)) []
+
+    from_zero : (k : ℕ) → 0 + k ≡ k
+    from_zero k = omega arith
+
+    longer : (k : ℕ) → Ends k xs → onto_first x (lines_of xs) ≡ take (suc k) (x ∷ xs) ∷ cond (ltb (suc k) (suc (length xs))) (lines_of (drop (suc k + 1) (x ∷ xs))) []
+    longer k h = simp (unary_clauses, compare.suc-suc) (ap (onto_first x) (simp unary_clauses at h))
+
+    go : (b : Bool) → LinesEnd xs
+        → cond b ([] ∷ lines_of xs) (onto_first x (lines_of xs))
+        ≡ take (0 + cond b 0 (suc (first_place ends_line xs))) (x ∷ xs)
+        ∷ cond (ltb (0 + cond b 0 (suc (first_place ends_line xs))) (suc (length xs))) (lines_of (drop (0 + cond b 0 (suc (first_place ends_line xs)) + 1) (x ∷ xs))) []
+    go true later = rw (lt-ltb 0 (suc (length xs)) (omega arith)) refl
+    go false later = rw (from_zero (suc (first_place ends_line xs))) (longer (first_place ends_line xs) (rw (from_zero (first_place ends_line xs)) at later))

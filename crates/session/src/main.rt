@@ -1,8 +1,7 @@
 // The marked session of document 01. Every figure is read from the answer and the table that a step gave.
 #![tactic(auto)]
 
-use answer::outcome::outcome_in;
-use cashier::opening::{empty_table, opening};
+use cashier::opening::opened;
 use stage::calls::call_name;
 use stage::house::marked;
 use stage::marked::{marked_calls, marked_order};
@@ -34,9 +33,9 @@ fn main(rt: HostRuntime) -> io::Result<()> {
     let mut out = BufWriter::new(rt.alloc(), io::writer(&rt))?;
     call_heading(&mut out)?;
     let order = marked_order();
-    let opened = outcome_in(&empty_table(), opening(marked(), order.as_slice()));
+    let opened = opened(marked(), order.as_slice());
     let line = CallLine {
-        name: "open",
+        name: b"open",
         number: opened.number,
         table: opened.table,
     };

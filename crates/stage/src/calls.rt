@@ -1,12 +1,16 @@
 // The calls of a script by their letters, and by the words that programs write for them.
 ghost use Rattle.std.specs.Prelude.{◌≡◌};
+ghost use Rattle.stage.specs.Letters.{call_of};
 ghost use Rattle.stage.specs.Names.{name_of};
 
 use call::{At, Call};
 
 // The call that a letter stands for.
 // Letters stay bytes, without an enum: a script is a text file, and every byte of it has its answer.
-pub fn call_of(letter: u8, at: At, amount: u64) -> Call {
+#[tactic(auto, unfolding(crate::specs::Letters::call_of))]
+pub fn call_of(letter: u8, at: At, amount: u64) -> Call
+    ensures { result ≡ call_of letter at amount }
+{
     match letter {
         b'f' => Call::Fill(amount),
         b'c' => Call::Credit(amount),
@@ -33,28 +37,28 @@ pub fn call_of(letter: u8, at: At, amount: u64) -> Call {
     }
 }
 
-// The name of a call.
-pub fn call_name(call: Call) -> &'static str
+// The name of a call, a fixed byte string.
+pub fn call_name(call: Call) -> &'static [u8]
     ensures { result.now ≡ name_of call }
 {
     match call {
-        Call::Fill(_) => "fill",
-        Call::Credit(_) => "credit",
-        Call::Buy(..) => "buy",
-        Call::Cash(..) => "cash",
-        Call::Stake(..) => "stake",
-        Call::Deal => "deal",
-        Call::Insure(..) => "insure",
-        Call::Stand(_) => "stand",
-        Call::Draw(_) => "draw",
-        Call::Double(_) => "double",
-        Call::Split(_) => "split",
-        Call::Surrender(_) => "surrender",
-        Call::Even(_) => "even",
-        Call::Five(_) => "five",
-        Call::Close => "close",
-        Call::Void => "void",
-        Call::Load => "load",
-        Call::Side(..) => "side",
+        Call::Fill(_) => b"fill",
+        Call::Credit(_) => b"credit",
+        Call::Buy(..) => b"buy",
+        Call::Cash(..) => b"cash",
+        Call::Stake(..) => b"stake",
+        Call::Deal => b"deal",
+        Call::Insure(..) => b"insure",
+        Call::Stand(_) => b"stand",
+        Call::Draw(_) => b"draw",
+        Call::Double(_) => b"double",
+        Call::Split(_) => b"split",
+        Call::Surrender(_) => b"surrender",
+        Call::Even(_) => b"even",
+        Call::Five(_) => b"five",
+        Call::Close => b"close",
+        Call::Void => b"void",
+        Call::Load => b"load",
+        Call::Side(..) => b"side",
     }
 }

@@ -9,7 +9,7 @@ pub mod program;
 pub mod row;
 pub mod shown;
 
-ghost use Rattle.std.specs.Prelude.{◌≡◌, [], min, take, get_or};
+ghost use Rattle.std.specs.Prelude.{◌≡◌, [], min, take};
 ghost use Rattle.call.specs.Refusal.{number_in};
 ghost use Rattle.answer.specs.Outcome.{outcome};
 ghost use Rattle.answer.specs.Scores.{no_scores};
@@ -17,7 +17,7 @@ ghost use Rattle.answer.specs.Reply.{given_by, given_of};
 ghost use Rattle.cashier_spec.specs.Opening.{open_conditions, open_table, empty_table};
 ghost use Rattle.engine.specs.Step.{step as step_by};
 ghost use Rattle.script.specs.Begun.{begun};
-ghost use Rattle.stage.specs.Rows.{order_in};
+ghost use Rattle.stage.specs.Rows.{lent_order};
 
 use crate::pay_lines::PayLines;
 use crate::row::Row;
@@ -56,7 +56,7 @@ impl Stage {
 
     // The order that the next opening or load is lent.
     pub fn take_order(&mut self, row: Row<'_>)
-        ensures order { get_or row.entry.front.now 2 0 ≡ 46 → self.new.order ≡ order_in row.entry.front.now row.entry.words.now }
+        ensures order { self.new.order ≡ lent_order row.entry.front.now row.entry.words.now }
         ensures table { self.new.table ≡ self.old.table }
     {
         self.order = row.order();

@@ -3,7 +3,7 @@ ghost use Rattle.std.specs.Prelude.{◌≡◌, OnOk, ◌++◌, ◌∷◌, [], co
 ghost use Rattle.std.specs.Iterator.{IsFinite, Drains};
 ghost use Rattle.std.specs.List.{FoldsTo};
 ghost use Rattle.std.specs.Io.KnownBytes.{Appends, Keeps};
-ghost use Rattle.stage.specs.Script.{TakesRow, is_row, rows_in};
+ghost use Rattle.stage.specs.Script.{TakesRow, IsRead, is_row, rows_in};
 
 use crate::row::Row;
 use std::io;
@@ -46,7 +46,7 @@ pub fn answer_script<R: AllocGlobal, I: Read + Drop, O: Write + Drop, S: Drop, F
 where
     F: Fn(&mut BufWriter<O>, &mut S, Row<'_>) -> io::Result<()> + Drop,
     requires { F.IsAlwaysCallable take }
-    ensures { OnOk result ((out : _) × (text : _) × (last : _) × FoldsTo (TakesRow F.Fn take) (out, begun) (rows_in text) last) }
+    ensures { OnOk result ((out : _) × (text : _) × (last : _) × IsRead (I.remaining script) text × FoldsTo (TakesRow F.Fn take) (out, begun) (rows_in text) last) }
 {
     let mut text = Vec::new(rt.alloc());
     script.take(ROOM).read_to_end(&mut text)?;

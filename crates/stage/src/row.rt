@@ -2,7 +2,7 @@
 ghost use Rattle.std.specs.Prelude.{◌≡◌, ◌<◌, ◌≤◌, ◌↔◌, length, take, drop, get_or, IsSome, IfSome, slice_range};
 ghost use Rattle.script.specs.Number.{digit_of, number_of};
 ghost use Rattle.options.specs.Ranges.{no_options};
-ghost use Rattle.stage.specs.Rows.{order_in, house_in};
+ghost use Rattle.stage.specs.Rows.{lent_order, house_in};
 
 use crate::house::house_in;
 use call::At;
@@ -59,8 +59,9 @@ impl<'a> Row<'a> {
 
     // In the row of an order the decks stand at 4, and the words are the cards that come first. At 2 stands how the order is wrong, as a builder may lend it: one card short (-),
     // with a byte that is no card in its last place (x), or with the first card there (2); a point where it is not.
+    #[tactic(auto, unfolding(crate::specs::Rows::wrong_by))]
     pub fn order(&self) -> Order
-        ensures { get_or self.now.front.now 2 0 ≡ 46 → result ≡ order_in self.now.front.now self.now.words.now }
+        ensures { result ≡ lent_order self.now.front.now self.now.words.now }
     {
         let mut order = order_named(self.words, digit(self.front[4]));
         let Some(last) = order.as_slice().len().checked_sub(1) else {

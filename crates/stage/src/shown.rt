@@ -25,11 +25,24 @@ pub fn opening_number(opened: Result<(), Refusal>) -> u8
     }
 }
 
+// Letters of a fixed byte string, each as it is.
+#[derive(Clone, Copy)]
+pub struct Letters(pub &'static [u8]);
+
+impl fmt::Display for Letters {
+    fn fmt<W: fmt::Write>(&self, f: &mut fmt::Formatter<W>) -> fmt::Result {
+        for letter in self.0 {
+            f.write_char(char::from(*letter))?;
+        }
+        Ok(())
+    }
+}
+
 // The line of a call: its name, its number, and what is read of the table after it: tray, layout, all purses, cards left.
 // The number is what is printed.
 #[derive(Clone, Copy)]
 pub struct CallLine {
-    pub name: &'static str,
+    pub name: &'static [u8],
     pub number: u8,
     pub table: Table,
 }
@@ -37,7 +50,7 @@ pub struct CallLine {
 impl fmt::Display for CallLine {
     fn fmt<W: fmt::Write>(&self, f: &mut fmt::Formatter<W>) -> fmt::Result {
         let shown = shown_table(self.table);
-        write!(f, "{} {} {} ", self.name, self.number, shown.tray)?;
+        write!(f, "{} {} {} ", Letters(self.name), self.number, shown.tray)?;
         write!(f, "{} {} {}", shown.layout, shown.purses, shown.left)
     }
 }

@@ -1,8 +1,9 @@
 // A guest's seat and money (request 2.8), read of the table and put back; who decides for a seat; and whether nobody is there.
-ghost use Rattle.std.specs.Prelude.{◌≡◌, eqb, get_or};
+// Whoever counts seats or positions reads them by number: `seat_at`, `money_at` and `guest_at` ask for one of the nine, or of the three.
+ghost use Rattle.std.specs.Prelude.{◌≡◌, ◌<◌, eqb, get_or};
 ghost use Rattle.lists.specs.Below.{all_below};
 ghost use Rattle.table.specs.Guest.{is_nobody, nobody_in};
-ghost use Rattle.table.specs.Seat.{with_guest, decider as decider_of};
+ghost use Rattle.table.specs.Seat.{guest_at, with_guest, decider as decider_of};
 ghost use Rattle.table.specs.Table.{seat_at, guest_of, with_seat};
 
 use crate::shape::seats_shape;
@@ -11,12 +12,20 @@ use options::Options;
 use options::decider::deciding_position;
 use table::{Money, Seat, Table};
 
+// The seat of that number.
+pub fn seat_at(t: &Table, i: usize) -> &Seat
+    requires { i < 9 }
+    ensures { result.now ≡ seat_at t.now i }
+{
+    seats_shape(&t.seats);
+    &t.seats[i]
+}
+
 // The seat of a guest.
 pub fn guest_seat(t: &Table, g: Guest) -> &Seat
     ensures { result.now ≡ seat_at t.now g.seat }
 {
-    seats_shape(&t.seats);
-    &t.seats[g.seat()]
+    seat_at(t, g.seat())
 }
 
 // The table with that seat in place i; the table itself where it has no such place.
@@ -31,16 +40,34 @@ pub fn with_seat(t: Table, i: usize, s: Seat) -> Table
     next
 }
 
-// The money of a guest.
+// The money of the guest of a seat in that position.
 #[tactic(auto, unfolding(table::specs::Seat::guest_at))]
-pub fn guest_money(t: &Table, g: Guest) -> &Money
-    ensures { result.now ≡ (guest_of t.now g.seat g.position).money }
+pub fn money_at(s: &Seat, p: u8) -> &Money
+    requires { p < 3 }
+    ensures { result.now ≡ (guest_at s.now p).money }
 {
-    let s = guest_seat(t, g);
-    match g.position() {
+    match p {
         0 => &s.money,
         1 => &s.others[0],
         _ => &s.others[1],
+    }
+}
+
+// The money of a guest.
+pub fn guest_money(t: &Table, g: Guest) -> &Money
+    ensures { result.now ≡ (guest_of t.now g.seat g.position).money }
+{
+    money_at(guest_seat(t, g), g.position())
+}
+
+// The seat as that of the guest in that position, as if alone there.
+pub fn guest_at(s: &Seat, p: u8) -> Seat
+    requires { p < 3 }
+    ensures { result ≡ guest_at s.now p }
+{
+    Seat {
+        money: *money_at(s, p),
+        ..*s
     }
 }
 
@@ -48,10 +75,7 @@ pub fn guest_money(t: &Table, g: Guest) -> &Money
 pub fn guest_of(t: &Table, g: Guest) -> Seat
     ensures { result ≡ guest_of t.now g.seat g.position }
 {
-    Seat {
-        money: *guest_money(t, g),
-        ..*guest_seat(t, g)
-    }
+    guest_at(guest_seat(t, g), g.position())
 }
 
 // The seat with other money of the guest in that position; the seat itself where there is no such position.

@@ -1,4 +1,6 @@
 // The session as a file: saved, and read to be played again.
+ghost use Rattle.std.specs.Prelude.{◌≤◌, IfOk, vec_len};
+
 use crate::asked::{Fault, Needed};
 use crate::desk::{Desk, ROOM};
 use crate::names::Typed;
@@ -30,10 +32,13 @@ fn old_file<R: Files>(rt: &R, name: &[u8]) -> Option<R::File> {
     fs::open(rt, path).ok()
 }
 
-// The bytes of the file that there is room for; a read that fails is the end of the file.
-fn read_full<F: Read + Drop>(alloc: Global, from: F) -> Result<Vec<u8>, AllocError> {
+// The bytes of the file that there is room for; a read that fails is the end of the file. A file's bytes are not known, so it is the cut that says how many there are.
+fn read_full<F: Read + Drop>(alloc: Global, from: F) -> Result<Vec<u8>, AllocError>
+    ensures { IfOk result (λ text. vec_len text ≤ ROOM) }
+{
     let mut text = Vec::with_capacity(alloc, ROOM)?;
     let _ = from.take(ROOM as u64).read_to_end(&mut text);
+    text.truncate(ROOM);
     Ok(text)
 }
 

@@ -1,6 +1,7 @@
 // The calls as they are typed.
 use call::{At, Call};
 use stage::calls::call_name;
+use stage::shown::Letters;
 use std::fmt;
 
 // A guest: the position is written where it is not the seated guest's.
@@ -21,19 +22,19 @@ impl fmt::Display for Guest {
 pub(crate) struct Typed(pub(crate) Call);
 
 // A side stake goes by its kind.
-fn typed_name(call: Call) -> &'static str {
+fn typed_name(call: Call) -> &'static [u8] {
     match call {
-        Call::Side(_, 1, _) => "pair",
-        Call::Side(_, 2, _) => "sevens",
-        Call::Side(_, 3, _) => "more",
-        Call::Side(_, 4, _) => "less",
+        Call::Side(_, 1, _) => b"pair",
+        Call::Side(_, 2, _) => b"sevens",
+        Call::Side(_, 3, _) => b"more",
+        Call::Side(_, 4, _) => b"less",
         _ => call_name(call),
     }
 }
 
 impl fmt::Display for Typed {
     fn fmt<W: fmt::Write>(&self, f: &mut fmt::Formatter<W>) -> fmt::Result {
-        write!(f, "{}", typed_name(self.0))?;
+        write!(f, "{}", Letters(typed_name(self.0)))?;
         match self.0 {
             Call::Fill(amount) | Call::Credit(amount) => write!(f, " {amount}"),
             Call::Buy(at, amount)

@@ -48,12 +48,12 @@ returns-in_err-first_refusal c =
       hand = rw (residual _ c.from_residual-in_err-first_refusal.ensures.1) tt;
     }
 
-pub waiting_hand-requires : goal.waiting_hand-requires
-waiting_hand-requires c = rw (c.table-t.ensures.same, c.in_ok-guest.ensures.guest) (turn_waits _ _ _ (passed (goal.at.waiting_hand-requires c).In_ok-first_refusal))
+pub read_hand-requires : goal.read_hand-requires
+read_hand-requires c = rw (c.table-t.ensures.same, c.in_ok-guest.ensures.guest) (turn_waits _ _ _ (passed (goal.at.read_hand-requires c).In_ok-first_refusal))
 
 pub returns : goal.returns
 returns c =
     record {
       number = passed (goal.at.returns c).In_ok-first_refusal;
-      hand = (c.waiting_hand.ensures.same ∙ c.in_ok-guest.ensures.guest, rw c.table-t.ensures.same at c.waiting_hand.ensures.turn);
+      hand = (c.read_hand.ensures.same ∙ c.in_ok-guest.ensures.guest, rw c.table-t.ensures.same at c.read_hand.ensures.turn);
     }

@@ -25,16 +25,16 @@ pub returns-in-Ok-None : goal.returns-in-Ok-None
 returns-in-Ok-None c =
     let a = c.args in
     record {
-      same = c.given.ensures.same ∙ by_numbers a.writer a.kind a.seat a.position a.amount a.order.now c.call_by.result _ c.call_by.ensures (rw c.in-Ok-None.field-0-is at c.in-Ok-None.ensures.gives);
-      options = c.given.ensures.options ∙ c.add.ensures.options;
+      same = by_numbers a.writer a.kind a.seat a.position a.amount a.order.now c.call_by.result _ c.call_by.ensures (rw c.in-Ok-None.field-0-is at c.in-Ok-None.ensures.gives);
+      options = c.add.ensures.options;
     }
 
 pub returns-in-Ok-One : goal.returns-in-Ok-One
 returns-in-Ok-One c =
     let a = c.args in
     record {
-      same = c.given-in-Ok-One.ensures.same ∙ by_numbers a.writer a.kind a.seat a.position a.amount a.order.now c.call_by.result _ c.call_by.ensures (rw c.in-Ok-One.field-0-is at c.in-Ok-One.ensures.gives);
-      options = c.given-in-Ok-One.ensures.options ∙ c.add.ensures.options;
+      same = by_numbers a.writer a.kind a.seat a.position a.amount a.order.now c.call_by.result _ c.call_by.ensures (rw c.in-Ok-One.field-0-is at c.in-Ok-One.ensures.gives);
+      options = c.add.ensures.options;
     }
 
 pub returns-in-Ok-Two : goal.returns-in-Ok-Two
@@ -42,14 +42,14 @@ returns-in-Ok-Two c =
     let a = c.args in
     let two : length c.in-Ok-Two.both ≡ 2 = search rules in
     record {
-      same = c.given-in-Ok-Two.ensures.same ∙ rw (both_blocks c.in-Ok-Two.both two) (by_numbers a.writer a.kind a.seat a.position a.amount a.order.now c.call_by.result _ c.call_by.ensures (rw c.in-Ok-Two.field-0-is at c.in-Ok-Two.ensures.gives));
-      options = c.given-in-Ok-Two.ensures.options ∙ c.add.ensures.options;
+      same = rw (both_blocks c.in-Ok-Two.both two) (by_numbers a.writer a.kind a.seat a.position a.amount a.order.now c.call_by.result _ c.call_by.ensures (rw c.in-Ok-Two.field-0-is at c.in-Ok-Two.ensures.gives));
+      options = c.add.ensures.options;
     }
 
 pub returns-in-Err : goal.returns-in-Err
 returns-in-Err c =
     let a = c.args in
     record {
-      same = c.refused.ensures.same ∙ by_numbers a.writer a.kind a.seat a.position a.amount a.order.now c.call_by.result _ c.call_by.ensures c.in-Err.ensures.gives;
-      options = c.refused.ensures.options ∙ c.add.ensures.options;
+      same = rw c.number.ensures (by_numbers a.writer a.kind a.seat a.position a.amount a.order.now c.call_by.result _ c.call_by.ensures c.in-Err.ensures.gives);
+      options = c.add.ensures.options;
     }

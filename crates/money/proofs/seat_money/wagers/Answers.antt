@@ -11,14 +11,14 @@ use Rattle.money.proofs.seat_money.wagers.Goals as goal
 
 pub sum-requires-clause-fits : goal.sum-requires-clause-fits
 sum-requires-clause-fits c =
-    let hands = c.args.hands in
+    let hands = c.args.hands.now in
     let stake = c.args.stake in
-    let full : length hands.places ≡ 4 = search rules in
+    let full : length hands.places ≡ 4 = c.places_shape.ensures in
     let most = added_most (wager stake) hands full (2 * stake) (λ h. (wager_bounds stake h).1) in
     let fits : sum_by (λ (h : SeatHand). wager stake (played_of h)) (take hands.many hands.places) < 18446744073709551616 = omega (arith, most) in
     search (rules, sums, fits)
 
 pub returns : goal.returns
 returns c =
-    let full : length c.args.hands.places ≡ 4 = search rules in
+    let full : length c.args.hands.now.places ≡ 4 = c.places_shape.ensures in
     rw hands-added (search (rules, sums))
