@@ -60,7 +60,7 @@ pub fn purse_sums(purse: u64) -> Sums
     }
 }
 
-// The sums of one guest whose hands' wagers and prizes are known. Not a part of `guest_sums`: called at one place it is put into the pass that tests every table.
+// The sums of one guest whose hands' wagers and prizes are known. Apart from `money_sums`, since `broken` knows both of a guest alone; put into the pass that tests every table.
 #[inline(always)]
 pub fn played_sums(s: Seat, wagers: u64, prizes: u64) -> Sums
     requires { wagers ≡ sum_of (wager_of (stake_of s)) (hands_of s.hands) }

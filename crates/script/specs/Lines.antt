@@ -10,7 +10,7 @@ ends_line letter = eqb letter 10
 abbrev pub line_end : List ℕ → ℕ → ℕ
 line_end text at = at + first_place ends_line (drop at text)
 
--- The lines of a text, cut at its line feeds as the library's `split` cuts them, by which the programs read.
+-- The lines of a text, cut at its line feeds as the library's `split` cuts them, by which the programs of scripts read.
 abbrev pub lines_of : List ℕ → List (List ℕ)
 lines_of text = slice_split ends_line text
 

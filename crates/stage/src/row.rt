@@ -89,8 +89,10 @@ impl<'a> Row<'a> {
 
     // What stands behind the options of an opening.
     pub fn opening_words(&self) -> Option<&'a [u8]>
-        ensures { IsSome result ↔ (36 ≤ length self.now.letters.now) }
+        ensures found { IsSome result ↔ (36 ≤ length self.now.letters.now) }
+        ensures words { IfSome result (λ words. words.now ≡ drop 36 self.now.letters.now) }
     {
-        self.letters.get(36..)
+        let (_, words) = self.letters.split_first_chunk::<36>()?;
+        Some(words)
     }
 }

@@ -25,7 +25,7 @@ pub fn opening_number(opened: Result<(), Refusal>) -> u8
     }
 }
 
-// Letters of a fixed byte string, each as it is.
+// Letters of a fixed byte string of ASCII, each as it is.
 #[derive(Clone, Copy)]
 pub struct Letters(pub &'static [u8]);
 

@@ -1,5 +1,5 @@
 // A guest's seat and money (request 2.8), read of the table and put back; who decides for a seat; and whether nobody is there.
-// Whoever counts seats or positions reads them by number: `seat_at`, `money_at` and `guest_at` ask for one of the nine, or of the three.
+// `seat_at`, `money_at` and `guest_at` read by number, and ask for one of the nine, or of the three.
 ghost use Rattle.std.specs.Prelude.{◌≡◌, ◌<◌, eqb, get_or};
 ghost use Rattle.lists.specs.Below.{all_below};
 ghost use Rattle.table.specs.Guest.{is_nobody, nobody_in};

@@ -1,5 +1,5 @@
 -- The sums of a guest whose hands are known; with stakes and insurances of 32 bits all but the cut purse are far below the limit.
-use mathlib.Core.Path.{◌≡◌}
+use mathlib.Core.Path.{◌≡◌, refl}
 use Prim.Native.Nat.{ℕ}
 use native.Mathlib.Omega.{arith}
 use lib.ListN.{length, get_or}
@@ -7,7 +7,6 @@ use mir.Syntax.{w32}
 use mir.Val.{Fits}
 use Rattle.money.proofs.sums.Pass.{guest-within}
 use borrow.Author.Rules.{rules}
-use mathlib.Core.Path.{refl}
 use Rattle.table.specs.Seat.{with_money, prizes}
 use Rattle.money.proofs.sums.money_sums.Goals as goal
 
