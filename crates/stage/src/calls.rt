@@ -1,5 +1,6 @@
 // The calls of a script by their letters, and by the words that programs write for them.
 ghost use Rattle.std.specs.Prelude.{◌≡◌};
+ghost use Rattle.std.specs.Str.{IsUtf8};
 ghost use Rattle.stage.specs.Letters.{call_of};
 ghost use Rattle.stage.specs.Names.{name_of};
 
@@ -37,9 +38,10 @@ pub fn call_of(letter: u8, at: At, amount: u64) -> Call
     }
 }
 
-// The name of a call, a fixed byte string.
+// The name of a call, a fixed byte string. It is UTF-8, so `str::from_utf8` gives it as text too.
 pub fn call_name(call: Call) -> &'static [u8]
-    ensures { result.now ≡ name_of call }
+    ensures letters { result.now ≡ name_of call }
+    ensures text { IsUtf8 result.now }
 {
     match call {
         Call::Fill(_) => b"fill",
@@ -60,5 +62,42 @@ pub fn call_name(call: Call) -> &'static [u8]
         Call::Void => b"void",
         Call::Load => b"load",
         Call::Side(..) => b"side",
+    }
+}
+
+#[cfg(test)]
+mod tests {
+    use super::call_name;
+    use call::{At, Call};
+
+    // The words of document 01, and that of request 2.6 for a side stake of any kind.
+    #[test]
+    fn names_as_text(rt: HostRuntime) {
+        let at = At {
+            seat: 0,
+            position: 0,
+        };
+        for (call, name) in [
+            (Call::Fill(1), "fill"),
+            (Call::Credit(1), "credit"),
+            (Call::Buy(at, 1), "buy"),
+            (Call::Cash(at, 1), "cash"),
+            (Call::Stake(at, 1), "stake"),
+            (Call::Deal, "deal"),
+            (Call::Insure(at, 1), "insure"),
+            (Call::Stand(at), "stand"),
+            (Call::Draw(at), "draw"),
+            (Call::Double(at), "double"),
+            (Call::Split(at), "split"),
+            (Call::Surrender(at), "surrender"),
+            (Call::Even(at), "even"),
+            (Call::Five(at), "five"),
+            (Call::Close, "close"),
+            (Call::Void, "void"),
+            (Call::Load, "load"),
+            (Call::Side(at, 9, 1), "side"),
+        ] {
+            assert_eq!(rt; str::from_utf8(call_name(call)).unwrap_or(""), name);
+        }
     }
 }
